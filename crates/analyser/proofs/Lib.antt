@@ -1,0 +1,3 @@
+pub mod Units
+pub mod Runs
+pub mod Agreement

@@ -1,0 +1,4 @@
+pub mod Refusals
+pub mod Books
+pub mod Histories
+pub mod States
