@@ -1,0 +1,10 @@
+pub mod Members
+pub mod Tables
+pub mod Books
+pub mod Loads
+pub mod Counts
+pub mod Replies
+pub mod Targets
+pub mod Solutions
+pub mod Listing
+pub mod Known

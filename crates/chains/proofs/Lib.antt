@@ -1,0 +1,5 @@
+pub mod Reach
+pub mod Walks
+pub mod Chained
+pub mod Splice
+pub mod Inserted

@@ -1,0 +1,6 @@
+pub mod Noting
+pub mod Sizes
+pub mod Kept
+pub mod Few
+pub mod Checking
+pub mod Verdict

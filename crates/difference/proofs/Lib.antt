@@ -1,0 +1,5 @@
+pub mod Handing
+pub mod Queue
+pub mod Notes
+pub mod Runs
+pub mod Taken

@@ -1,0 +1,4 @@
+pub mod Scans
+pub mod Opening
+pub mod Putting
+pub mod Walks

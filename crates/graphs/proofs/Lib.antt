@@ -1,0 +1,6 @@
+pub mod Words
+pub mod Rows
+pub mod Closing
+pub mod Parts
+pub mod Orders
+pub mod Numbers

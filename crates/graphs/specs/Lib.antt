@@ -1,0 +1,5 @@
+pub mod Matrix
+pub mod Keys
+pub mod Paths
+pub mod Components
+pub mod Order

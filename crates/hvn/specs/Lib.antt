@@ -1,0 +1,3 @@
+pub mod Shapes
+pub mod Columns
+pub mod Flows

@@ -1,0 +1,5 @@
+pub mod Classes
+pub mod Terminals
+pub mod Lexemes
+pub mod Texts
+pub mod Lines

@@ -1,0 +1,5 @@
+pub mod Records
+pub mod Indexed
+pub mod Sounds
+pub mod Rewriting
+pub mod Held

@@ -1,0 +1,4 @@
+pub mod Notes
+pub mod Index
+pub mod Tables
+pub mod Held

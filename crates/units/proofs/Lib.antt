@@ -1,0 +1,4 @@
+pub mod Packed
+pub mod Arguments
+pub mod Overlay
+pub mod Passes

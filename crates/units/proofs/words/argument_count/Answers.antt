@@ -1,0 +1,12 @@
+use mathlib.Core.Path.{_≡_, sym, _∙_}
+use native.Mathlib.Omega.{arith}
+use borrow.Author.Needs.{needs}
+use lib.ListN.{length}
+use Rattle.grammar.specs.Meanings.{placeIn}
+use Rattle.units.proofs.Arguments.{given-length}
+use Rattle.units.proofs.words.argument_count.Needs as need
+
+pub returns : need.returns
+returns c =
+    let six : length (c .args .call .arguments .places) ≡ 6 = search needs in
+    record { all = λ text. c .min .ensures ∙ sym (given-length (placeIn text) _ six _); few = omega (arith, c .min .ensures) }
