@@ -11,15 +11,16 @@ use Rattle.std.specs.Options.{isSome}
 use Rattle.std.specs.declared.option.Option.{Option}
 use Rattle.std.specs.declared.option.Option.the-variants.{Some, None}
 use Rattle.std.proofs.shelf.Lists.{ext-getD}
+use Rattle.declarations.specs.Verdicts.{unit-verdict}
 use Rattle.analyser.specs.declared.Call.{Call}
 use Rattle.analyser.specs.declared.Call.the-variants.{Load, Unload}
 use Rattle.analyser.specs.declared.Reply.{Reply}
 use Rattle.analyser.specs.declared.Reply.the-variants.{Loaded, Unloaded}
 use Rattle.analyser.specs.declared.refusal.Refusal.{Refusal}
-use Rattle.analyser.specs.declared.refusal.Refusal.the-variants.{NoSuchUnit, UnitStands, TextTooLong, NothingStands}
+use Rattle.analyser.specs.declared.refusal.Refusal.the-variants.{NoSuchUnit, UnitStands, NothingStands}
 use Rattle.analyser.specs.Books.{Book, unless, unsettled, load-refusal, unload-refusal}
 use Rattle.analyser.specs.Histories.{Says, History, next-book, book-from, refused-or, call-at, reply-at}
-use Rattle.analyser.specs.Refusals.{refused-if, first-of}
+use Rattle.analyser.specs.Refusals.{refused-if, refused-text, first-of}
 
 -- a change of the book shows in its texts alone
 texts-after : (o p : Option Refusal) (f : List (Option (List ℕ)) → List (Option (List ℕ))) (b c : Book) → o ≡ p → b .texts ≡ c .texts → unless o (unsettled (f (b .texts))) b .texts ≡ unless p (unsettled (f (c .texts))) c .texts
@@ -32,7 +33,7 @@ module _ (b c : Book) (same : b .texts ≡ c .texts) where
   load-alike : (u : ℕ) (t : List ℕ) → load-refusal b u t ≡ load-refusal c u t
   unfolding load-refusal
   load-alike u t =
-      ap (λ ts. first-of (refused-if (ltb 7 u) NoSuchUnit ∷ (refused-if (isSome (getD ts u None)) UnitStands ∷ (refused-if (ltb 4096 (length t)) TextTooLong ∷ [])))) same
+      ap (λ ts. first-of (refused-if (ltb 7 u) NoSuchUnit ∷ (refused-if (isSome (getD ts u None)) UnitStands ∷ (refused-text (unit-verdict t) ∷ [])))) same
 
   unload-alike : (u : ℕ) → unload-refusal b u ≡ unload-refusal c u
   unfolding unload-refusal

@@ -3,14 +3,22 @@ use mathlib.Core.Path.{_≡_, refl, sym, ap, _∙_}
 use mathlib.Core.List.{List, map}
 use mathlib.Core.Bool.{Bool, true, false, cond}
 use Prim.Native.Nat.{ℕ, _<_, _≤_}
+use native.Mathlib.Omega.{arith}
 use lib.Dec.{ltb}
 use lib.ListN.{length, getD, set}
 use Rattle.std.specs.Options.{isSome}
 use Rattle.std.specs.declared.option.Option.{Option}
 use Rattle.std.specs.declared.option.Option.the-variants.{Some, None}
+use Rattle.std.specs.declared.result.Result.{Result}
+use Rattle.std.specs.declared.result.Result.the-variants.{Ok, Err}
 use Rattle.std.proofs.shelf.Lists.{getD-map, map-set}
 use Rattle.std.proofs.shelf.Tests.{lt-ltb, le-ltb}
-use Rattle.analyser.specs.declared.refusal.Refusal.the-variants.{NoSuchUnit, UnitStands, TextTooLong, NothingStands}
+use Rattle.grammar.specs.declared.unit.UnitFault.{UnitFault}
+use Rattle.grammar.specs.Units.{read, outcome}
+use Rattle.grammar.proofs.Reading.{read-whole}
+use Rattle.declarations.specs.Declarations.{fault-in}
+use Rattle.declarations.specs.Verdicts.{ruled, both, unit-verdict}
+use Rattle.analyser.specs.declared.refusal.Refusal.the-variants.{NoSuchUnit, UnitStands, Text, NothingStands}
 use Rattle.analyser.specs.declared.slot.Slot.{Slot}
 use Rattle.analyser.specs.Books.{Book, stands, load-refusal, unload-refusal}
 use Rattle.analyser.specs.States.{slot-text}
@@ -45,10 +53,19 @@ module _ (b : Book) (u : ℕ) where
       unfolding load-refusal
       load-stands e = rw (le-ltb 7 u inside, e)
 
-      pub load-long : stands b u ≡ false → 4096 < length t → load-refusal b u t ≡ Some TextTooLong
-      unfolding load-refusal
-      load-long e h = rw (le-ltb 7 u inside, e, lt-ltb 4096 (length t) h)
+      module _ (free : stands b u ≡ false) where
+        pub load-faulty : (f : UnitFault) → Err f ≡ unit-verdict t → load-refusal b u t ≡ Some (Text f)
+        unfolding load-refusal
+        load-faulty f e = rw (le-ltb 7 u inside, free, sym e)
 
-      pub load-accepted : stands b u ≡ false → length t ≤ 4096 → load-refusal b u t ≡ None
-      unfolding load-refusal
-      load-accepted e h = rw (le-ltb 7 u inside, e, le-ltb 4096 (length t) h)
+        pub load-accepted : Ok tt ≡ unit-verdict t → load-refusal b u t ≡ None
+        unfolding load-refusal
+        load-accepted e = rw (le-ltb 7 u inside, free, sym e)
+
+-- a text that is accepted fits into a slot
+pub accepted-short : (t : List ℕ) → Ok tt ≡ unit-verdict t → length t ≤ 4096
+accepted-short t e = read-whole t (admitted (outcome (read t)) e) .few
+  where
+    admitted : (r : Result (Prim.Unit {0}) UnitFault) → Ok tt ≡ both r (ruled t (fault-in t)) → Ok tt ≡ r
+    admitted (Ok tt) k = refl
+    admitted (Err f) k = absurd (let z : _≡_ {A = ℕ} 0 1 = cc k in omega arith)

@@ -3,15 +3,16 @@ use mathlib.Core.List.{List, [], _∷_}
 use mathlib.Core.Bool.{Bool, true, false, cond, not}
 use Prim.Native.Nat.{ℕ}
 use lib.Dec.{ltb}
-use lib.ListN.{length, getD, set, take, replicate}
+use lib.ListN.{getD, set, take, replicate}
 use Rattle.std.specs.Options.{isSome}
 use Rattle.std.specs.declared.option.Option.{Option}
 use Rattle.std.specs.declared.option.Option.the-variants.{Some, None}
 use Rattle.std.specs.declared.result.Result.{Result}
 use Rattle.std.specs.declared.result.Result.the-variants.{Ok, Err}
+use Rattle.declarations.specs.Verdicts.{unit-verdict}
 use Rattle.analyser.specs.declared.refusal.Refusal.{Refusal}
-use Rattle.analyser.specs.declared.refusal.Refusal.the-variants.{NoSuchUnit, UnitStands, TextTooLong, NothingStands}
-use Rattle.analyser.specs.Refusals.{refused-if, first-of}
+use Rattle.analyser.specs.declared.refusal.Refusal.the-variants.{NoSuchUnit, UnitStands, NothingStands}
+use Rattle.analyser.specs.Refusals.{refused-if, refused-text, first-of}
 
 pub record Book : Type 0 where
   pub texts : List (Option (List ℕ))
@@ -29,7 +30,7 @@ stands b u = isSome (getD (b .texts) u None)
 -- the first refusal of a load that applies, if any does
 unfoldable pub load-refusal : Book → ℕ → List ℕ → Option Refusal
 load-refusal b u t =
-    first-of (refused-if (ltb 7 u) NoSuchUnit ∷ (refused-if (stands b u) UnitStands ∷ (refused-if (ltb 4096 (length t)) TextTooLong ∷ [])))
+    first-of (refused-if (ltb 7 u) NoSuchUnit ∷ (refused-if (stands b u) UnitStands ∷ (refused-text (unit-verdict t) ∷ [])))
 
 unfoldable pub unload-refusal : Book → ℕ → Option Refusal
 unload-refusal b u = first-of (refused-if (ltb 7 u) NoSuchUnit ∷ (refused-if (not (stands b u)) NothingStands ∷ []))

@@ -3,13 +3,19 @@ ghost use mathlib.Core.Path.{_≡_};
 ghost use Rattle.analyser.specs.Books.{new-book, load-refusal, unload-refusal, load-book, unload-book, done-or};
 ghost use Rattle.analyser.specs.States.{book-of};
 use crate::Refusal;
+use crate::refusal::RefusalFromUnitFault;
 use crate::slot::Slot;
+use declarations::check::DeclarationMemory;
+use declarations::check::check_unit;
+
+const LAST_UNIT: usize = 7;
 
 // For unit numbers 0 to 7 the standing text or none. All memory is taken at making: no call allocates.
 #[derive(Drop)]
 pub struct Analyser {
     slots: [Slot; 8],
     settled: bool,
+    memory: DeclarationMemory,
 }
 
 impl Analyser {
@@ -19,6 +25,7 @@ impl Analyser {
         Analyser {
             slots: [Slot::free(); 8],
             settled: false,
+            memory: DeclarationMemory::new(),
         }
     }
 
@@ -28,15 +35,13 @@ impl Analyser {
         ensures after { λ _. ⌜ book-of (now (self .exit)) ≡ load-book (book-of (now (self .entry))) unit (now (text .entry)) ⌝ }
     {
         let u = unit as usize;
-        if u > 7 {
+        if u > LAST_UNIT {
             return Err(Refusal::NoSuchUnit);
         }
         if self.slots[u].is_standing() {
             return Err(Refusal::UnitStands);
         }
-        if text.len() > 4096 {
-            return Err(Refusal::TextTooLong);
-        }
+        check_unit(text, &mut self.memory)?;
         self.slots[u].put(text);
         self.settled = false;
         Ok(())
@@ -48,7 +53,7 @@ impl Analyser {
         ensures after { λ _. ⌜ book-of (now (self .exit)) ≡ unload-book (book-of (now (self .entry))) unit ⌝ }
     {
         let u = unit as usize;
-        if u > 7 {
+        if u > LAST_UNIT {
             return Err(Refusal::NoSuchUnit);
         }
         if !self.slots[u].is_standing() {

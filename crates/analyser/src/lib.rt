@@ -11,9 +11,7 @@ pub use history::AuditReport;
 pub use history::audit;
 pub use history::replay;
 pub use refusal::Refusal;
-use refusal::RefusalDebug;
-use refusal::RefusalEq;
-use refusal::RefusalPartialEq;
+pub use refusal::RefusalFromUnitFault;
 
 // One call of a host, with its arguments.
 #[derive(Clone, Copy)]
@@ -23,7 +21,7 @@ pub enum Call<'a> {
 }
 
 // What a call is answered.
-#[derive(Clone, Copy, PartialEq, Eq, Debug)]
+#[derive(Clone, Copy, Drop)]
 pub enum Reply {
     Loaded,
     Unloaded,

@@ -103,7 +103,7 @@ fn show_calls(rt: &LibcRuntime, lines: &[Line<'_>], replies: &[Reply]) -> Result
 }
 
 fn show_audit(rt: &LibcRuntime, loads: usize, report: &AuditReport) -> Result<(), Failure> {
-    let differ = report::differing(&report.first_further, &report.second_further);
+    let differ = report::differing(rt.alloc(), &report.first_further, &report.second_further)?;
     let asked = report.first_further.len();
     println!(
         rt,

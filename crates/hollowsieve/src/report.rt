@@ -2,7 +2,8 @@
 use crate::source::Line;
 use analyser::Refusal;
 use analyser::Reply;
-use analyser::ReplyPartialEq;
+use grammar::unit::UnitFault;
+use lexemes::location::Location;
 use std::alloc::AllocError;
 use std::alloc::Global;
 
@@ -11,8 +12,32 @@ fn meaning(refusal: Refusal) -> &'static str {
     match refusal {
         Refusal::NoSuchUnit => "no such unit number",
         Refusal::UnitStands => "the unit stands already",
-        Refusal::TextTooLong => "text too long",
+        Refusal::Text(UnitFault::TooLong) => "text too long",
+        Refusal::Text(UnitFault::Grammar(_)) => "grammar",
+        Refusal::Text(UnitFault::Declaration(_)) => "declaration",
         Refusal::NothingStands => "nothing stands",
+    }
+}
+
+// Where in its text a load is at fault.
+fn location(refusal: Refusal) -> Option<Location> {
+    match refusal {
+        Refusal::Text(fault) => fault.location(),
+        _ => None,
+    }
+}
+
+fn refusal_text(heap: Global, refusal: Refusal) -> Result<String, AllocError> {
+    let number = refusal.number();
+    let words = meaning(refusal);
+    match location(refusal) {
+        Some(Location { offset, line }) => {
+            format!(
+                heap,
+                "refused {number} ({words}) at offset {offset}, line {line}"
+            )
+        }
+        None => format!(heap, "refused {number} ({words})"),
     }
 }
 
@@ -20,11 +45,7 @@ fn reply_text(heap: Global, reply: Reply) -> Result<String, AllocError> {
     match reply {
         Reply::Loaded => String::from_str(heap, "loaded"),
         Reply::Unloaded => String::from_str(heap, "unloaded"),
-        Reply::Refused(refusal) => {
-            let number = refusal.number();
-            let words = meaning(refusal);
-            format!(heap, "refused {number} ({words})")
-        }
+        Reply::Refused(refusal) => refusal_text(heap, refusal),
     }
 }
 
@@ -53,13 +74,13 @@ pub fn refusals(replies: &[Reply]) -> usize {
     count
 }
 
-// How many replies differ, place by place.
-pub fn differing(first: &[Reply], second: &[Reply]) -> usize {
+// How many replies differ, place by place: a reply's text has all that it tells.
+pub fn differing(heap: Global, first: &[Reply], second: &[Reply]) -> Result<usize, AllocError> {
     let mut count = 0usize;
     for (a, b) in first.iter().zip(second.iter()) {
-        if a != b {
+        if reply_text(heap, *a)? != reply_text(heap, *b)? {
             count = count.saturating_add(1);
         }
     }
-    count
+    Ok(count)
 }
