@@ -11,6 +11,12 @@ use chains::ChainsStore;
 use difference::DifferencePropagation;
 use difference::difference_over;
 use engine::Engine;
+use hu::Hu;
+use hu::HuMerge;
+use hvn::Hvn;
+use hvn::HvnMerge;
+use layers::Merging;
+use layers::MergingEngine;
 use outcome::Outcome;
 use outcome::OutcomeDisplay;
 use outcome::OutcomeEq;
@@ -75,6 +81,18 @@ fn compare(rt: &LibcRuntime, name: &str, case: &Case, cells: usize, times: bool)
     }
 }
 
+// Runs a list under each layer over the plain worklist, and over a store without room: there the layer's own work is all.
+fn layered(rt: &LibcRuntime, case: &Case) -> io::Result<()> {
+    let one = timed(rt, &mut Merging::new(Hvn::new(), worklist_over(bits(rt)?)), case)?;
+    show(rt, "hvn+worklist/bits", one, true)?;
+    let two = timed(rt, &mut Merging::new(Hu::new(), worklist_over(bits(rt)?)), case)?;
+    show(rt, "hu+worklist/bits", two, true)?;
+    let three = timed(rt, &mut Merging::new(Hvn::new(), worklist_over(chained(rt, 0)?)), case)?;
+    show(rt, "hvn by itself, no room below", three, true)?;
+    let four = timed(rt, &mut Merging::new(Hu::new(), worklist_over(chained(rt, 0)?)), case)?;
+    show(rt, "hu by itself, no room below", four, true)
+}
+
 fn known_lists(rt: &LibcRuntime, times: bool) -> io::Result<()> {
     let heap = rt.alloc();
     compare(rt, "no words", &Case::of(heap, 0, &[])?, 1024, times)?;
@@ -102,30 +120,21 @@ fn known_lists(rt: &LibcRuntime, times: bool) -> io::Result<()> {
     )
 }
 
+fn at_the_limit(rt: &LibcRuntime, name: &str, case: &Case) -> io::Result<()> {
+    compare(rt, name, case, 16384, true)?;
+    layered(rt, case)
+}
+
 fn lists_at_the_limits(rt: &LibcRuntime) -> io::Result<()> {
     let heap = rt.alloc();
-    compare(
-        rt,
-        "512 words of all kinds",
-        &case::mixed(heap)?,
-        16384,
-        true,
-    )?;
-    compare(
+    at_the_limit(rt, "512 words of all kinds", &case::mixed(heap)?)?;
+    at_the_limit(
         rt,
         "a long chain in the worst order, 60 objects",
         &case::long_chain(heap, 60)?,
-        16384,
-        true,
     )?;
-    compare(
-        rt,
-        "a star of loads and stores",
-        &case::star(heap)?,
-        16384,
-        true,
-    )?;
-    compare(rt, "all 65,536 pairs", &case::full(heap)?, 16384, true)
+    at_the_limit(rt, "a star of loads and stores", &case::star(heap)?)?;
+    at_the_limit(rt, "all 65,536 pairs", &case::full(heap)?)
 }
 
 fn main(rt: LibcRuntime) -> io::Result<()> {
