@@ -1,4 +1,6 @@
 // The analyser of a host: which unit texts stand, the calls on them, and whole histories of calls.
+#![tactic(auto)]
+
 mod analyser;
 mod history;
 mod refusal;

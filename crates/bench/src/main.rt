@@ -1,4 +1,6 @@
 // Four engines, two solvers over two stores, on known lists; with --time also lists at the limits, with the time of each.
+#![tactic(auto)]
+
 mod case;
 mod outcome;
 

@@ -1,4 +1,5 @@
 // A row store of 2,048 words of 32 bits: pair (v, o) is bit o mod 32 of word 8 v + o / 32.
+#![tactic(auto)]
 
 ghost use Rattle.std.specs.Prelude.{◌≡◌, ℕ, ◌<◌, ◌≤◌, Bool, true, false, length};
 ghost use Rattle.constraints.specs.Finite.{count};

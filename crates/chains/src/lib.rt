@@ -1,4 +1,5 @@
 // A row store of linked cells: each row is a chain of cells with rising objects.
+#![tactic(auto)]
 
 ghost use Rattle.std.specs.Prelude.{◌≡◌, ℕ, ◌+◌, ◌<◌, ◌≤◌, false, length, ◌==◌, ◌≢◌, nat_le};
 ghost use Rattle.constraints.specs.Finite.{count};

@@ -1,4 +1,6 @@
 // Inclusion constraints: words, blocks, the list of both, and the laws of the smallest solution that solvers and merging layers rest on.
+#![tactic(auto)]
+
 mod constraint;
 mod laws;
 mod list;

@@ -1,4 +1,6 @@
 // Difference propagation: each pair is handed on once, by each word at most once.
+#![tactic(auto)]
+
 mod pending;
 mod spread;
 

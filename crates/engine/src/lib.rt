@@ -1,4 +1,6 @@
 // Engines: a list of blocks and words is gathered, settled, and then asked.
+#![tactic(auto)]
+
 mod fault;
 mod hand;
 

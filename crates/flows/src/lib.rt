@@ -1,4 +1,6 @@
 // What merging layers read off a list before solving: open variables, reachability along copies, and where each source stands.
+#![tactic(auto)]
+
 mod copies;
 mod opened;
 mod stand;

@@ -1,4 +1,6 @@
 // The grammar of unit texts: items, read from lexemes.
+#![tactic(auto)]
+
 pub mod item;
 pub mod reader;
 pub mod state;

@@ -1,4 +1,6 @@
 // Whole histories of an analyser's calls: their replies, and the comparison of two of them.
+#![tactic(auto)]
+
 mod call;
 mod history;
 mod progress;

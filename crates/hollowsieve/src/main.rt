@@ -1,4 +1,6 @@
 // Audits a host's journal of calls.
+#![tactic(auto)]
+
 mod failure;
 mod journal;
 mod options;

@@ -1,4 +1,6 @@
 // The analyser of a host, over any engine.
+#![tactic(auto)]
+
 mod analyser;
 mod asking;
 mod listing;

@@ -1,4 +1,6 @@
 // Merging layers: variables of one class are replaced by one of them before the engine below settles.
+#![tactic(auto)]
+
 mod merging;
 mod plan;
 mod reduce;

@@ -1,4 +1,6 @@
 // Runs piles of layers over both solvers and both stores on lists with known outcomes, and prints what each does.
+#![tactic(auto)]
+
 use bit_rows::BitRows;
 use chains::{Cell, Chains};
 use difference::difference_over;

@@ -1,4 +1,6 @@
 // Unit texts as lexemes: bytes, their classes, the lexemes they make, and lines.
+#![tactic(auto)]
+
 pub mod class;
 pub mod lexeme;
 pub mod lexer;

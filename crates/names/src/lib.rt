@@ -1,4 +1,6 @@
 // The table of names that standing units mention, found by hash.
+#![tactic(auto)]
+
 mod asked;
 mod inner;
 mod record;

@@ -1,4 +1,5 @@
 // Tables of names with known outcomes.
+#![tactic(auto)]
 
 #[cfg(test)]
 mod tests {

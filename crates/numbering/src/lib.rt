@@ -1,4 +1,6 @@
 // Numbering over any bank of keys: each position gets the first position with the same key.
+#![tactic(auto)]
+
 ghost use Rattle.std.specs.Prelude.{◌≡◌, ℕ, ◌%◌, ◌<◌, ◌≤◌, Bool, true, length, MatchOption, ◌≢◌, slice_index};
 ghost use Rattle.numbering.specs.Keys.{Equivalence, HashAlike, Fresh, Latest, Entry, Linked, Numbered};
 ghost use Rattle.numbering.specs.Lists.{hash_of};
@@ -31,11 +33,11 @@ pub trait KeyBank {
 // The first position with the key of position i, along the chain of its bucket: the last step of a numbering, or a
 // question put behind the keys that are linked so far.
 pub fn lookup<B: KeyBank>(bank: &B, links: &[u16], head: u16, i: usize) -> Option<u16>
-    requires within { i < count bank.now }
+    requires within { i < B.count bank.now }
     requires long { i ≤ length links.now }
-    requires linked { Linked (same bank.now) (hashed bank.now) links.now i }
-    requires headed { Latest (Entry (same bank.now) (hashed bank.now) (hashed bank.now i % 256)) i head }
-    ensures { MatchOption result ((j : ℕ) → j < i → Entry (same bank.now) (hashed bank.now) (hashed bank.now i % 256) j → same bank.now j i ≢ true) (λ f. (f < i) × (Fresh (same bank.now) f) × (same bank.now f i ≡ true)) }
+    requires linked { Linked (B.same bank.now) (B.hashed bank.now) links.now i }
+    requires headed { Latest (Entry (B.same bank.now) (B.hashed bank.now) (B.hashed bank.now i % 256)) i head }
+    ensures { MatchOption result ((j : ℕ) → j < i → Entry (B.same bank.now) (B.hashed bank.now) (B.hashed bank.now i % 256) j → B.same bank.now j i ≢ true) (λ f. (f < i) × (Fresh (B.same bank.now) f) × (B.same bank.now f i ≡ true)) }
 {
     let mut cursor = head;
     while cursor > 0 {
@@ -51,11 +53,11 @@ pub fn lookup<B: KeyBank>(bank: &B, links: &[u16], head: u16, i: usize) -> Optio
 // Gives each position of the bank the first position with the same key. What stands past the bank's count stays;
 // `links` is memory to work in.
 pub fn number<B: KeyBank>(bank: &B, first: &mut [u16], links: &mut [u16])
-    requires few { count bank.now < 65536 }
-    requires long { count bank.now ≤ length first.old }
-    requires room { count bank.now ≤ length links.old }
-    ensures numbered { Numbered (same bank.now) first.new (count bank.now) }
-    ensures rest { (j : ℕ) → count bank.now ≤ j → slice_index first.new j ≡ slice_index first.old j }
+    requires few { B.count bank.now < 65536 }
+    requires long { B.count bank.now ≤ length first.old }
+    requires room { B.count bank.now ≤ length links.old }
+    ensures numbered { Numbered (B.same bank.now) first.new (B.count bank.now) }
+    ensures rest { (j : ℕ) → B.count bank.now ≤ j → slice_index first.new j ≡ slice_index first.old j }
 {
     let mut heads = [0u16; 256];
     for i in 0..bank.len() {

@@ -1,4 +1,6 @@
 // Places and names in questions: written as in unit texts, without blanks.
+#![tactic(auto)]
+
 ghost use Rattle.std.specs.Prelude.{◌≡◌, ℕ, List};
 ghost use Rattle.lexemes.specs.declared.lexeme.Sign.TheVariants.{Stop as FullStop};
 ghost use Rattle.lexemes.specs.Classes.{class_of};

@@ -1,4 +1,5 @@
 // Row stores: sets of pairs of a variable and an object, within a room that is fixed at making.
+#![tactic(auto)]
 
 ghost use Rattle.std.specs.Prelude.{◌≡◌, ℕ, List};
 ghost use Rattle.constraints.specs.Rows.{Rows, empty};

@@ -1,4 +1,5 @@
 // Runs of operations over row stores: what every store replies, and that no run tells two stores apart.
+#![tactic(auto)]
 
 ghost use Rattle.std.specs.Prelude.{◌≡◌, true};
 ghost use Rattle.rows_checks.specs.Runs.{reply_of, pairs_after};

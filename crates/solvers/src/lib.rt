@@ -1,4 +1,6 @@
 // Solvers: engines that take a list in word by word, each time to the smallest solution so far.
+#![tactic(auto)]
+
 mod solver;
 
 ghost use Rattle.std.specs.Prelude.{◌≡◌, ℕ, ◌<◌, ◌≤◌, length};

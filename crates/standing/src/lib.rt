@@ -1,4 +1,6 @@
 // The standing units of a host: their texts, and the table of their names.
+#![tactic(auto)]
+
 mod firsts;
 mod held;
 pub mod list;

@@ -1,4 +1,6 @@
 // Unit texts with known outcomes.
+#![tactic(auto)]
+
 ghost use Rattle.unit_texts.specs.Valves.{valve_first};
 
 use lexemes::lexeme::same;

@@ -1,4 +1,6 @@
 // The walk of each kind of constraint, proved once for every solver.
+#![tactic(auto)]
+
 ghost use Rattle.std.specs.Prelude.{◌≡◌, ℕ, ◌+◌, ◌<◌, T};
 ghost use Rattle.constraints.specs.Rows.{Rows, pairs};
 ghost use Rattle.constraints.specs.Constraint.{System, length_of, Meets};

@@ -1,4 +1,6 @@
 // The plain worklist: the words that may have something to add wait, and each is walked whole.
+#![tactic(auto)]
+
 mod waiting;
 
 ghost use Rattle.std.specs.Prelude.{◌≡◌, false};

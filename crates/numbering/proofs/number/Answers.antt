@@ -31,12 +31,12 @@ loop-i-preserved g c =
     elim c.match-lookup.branch [
       | in-Some w ↦
           let found = w.in-Some.ensures in
-          subst₃ (λ f h l. P f h l (i + 1)) (sym w.first_is) (sym w.heads-is) (sym w.links-is)
+          subst₃ (λ f h l. P f h l (i + 1)) (sym w.first-is) (sym w.heads-is) (sym w.links-is)
           (progress_found same hash n eq _ _ _ _ i c.loop-i.invariant hi long room _ found.0 found.1 found.2)
       | in-None w ↦
           let heads = c.loop-i.heads in
           let links = c.loop-i.links in
-          subst₃ (λ f h l. P f h l (i + 1)) (sym w.first_is) (sym w.heads-is) (sym w.links-is)
+          subst₃ (λ f h l. P f h l (i + 1)) (sym w.first-is) (sym w.heads-is) (sym w.links-is)
           (subst (λ k. P (set c.loop-i.first i i) (set heads (k % 256) (i + 1)) (set links i (get_or heads (k % 256) 0)) (i + 1))
           (sym c.hash.ensures)
           (progress_fresh same hash n eq _ _ _ _ i c.loop-i.invariant hi long room (g.B.KeyBank.alike bank) w.in-None.ensures))

@@ -13,7 +13,7 @@ returns c =
       marks = marks_rows;
       reduction = λ sys small rep reduces same_rows OpenStays.
           (reduced_rows sys small rep reduces same_rows OpenStays, reduced_within sys small rep reduces same_rows OpenStays);
-      by-mark = λ sys valid. keeps_rows sys (same_mark sys) valid (same_mark_refl sys) (same_mark_rows sys valid);
+      by_mark = λ sys valid. keeps_rows sys (same_mark sys) valid (same_mark_refl sys) (same_mark_rows sys valid);
       by_value = λ sys valid. keeps_rows sys (value_class sys) valid (λ v. same_value_refl (value sys (copy_reach sys) v)) (equal_value_rows sys valid);
       own_position = own_position_is;
     }
