@@ -1,7 +1,7 @@
 -- Insertion keeps the order.
 use Rattle.std.proofs.Common.{◌≡◌, ℕ, ◌+◌, ◌-◌, ◌<◌, ◌≤◌, Bool, true, false, not, ◌≢◌, ◌⊎◌, List, length, get_or, set, sym, refl, ap, ◌∙◌, subst, subst₂, inl, inr, ⊎_elim, arith}
 use Rattle.std.proofs.lemmas.List.{get_or-set_same, get_or-set_other}
-use Rattle.std.proofs.lemmas.Bool.{cases_eq, cases_lt, cases_order, and_parts, and_from, not_true, not_from_false, both_ways, cases_Bool}
+use Rattle.std.proofs.lemmas.Bool.{cases_eq, cases_lt, cases_order, and_parts, and_from, not-true, not_from_false, both_ways, cases_Bool}
 use Rattle.graphs.specs.Matrix.{bit}
 use Rattle.graphs.specs.Paths.{Reaches, Closure}
 use Rattle.graphs.specs.Order.{Above, Arranged, above, FirstBelow, Inserted}
@@ -65,7 +65,7 @@ module _ (edge : ℕ → ℕ → Bool) (m : List ℕ) (c : Closure edge m) where
   above_from : (u v : ℕ) → u < 256 → v < 256 → above m u v ≡ true → Above edge u v
   above_from u v hu hv e =
       let both = and_parts (bit m u v) (not (bit m v u)) e in
-      record { there = (c u v hu hv).0 both.0; apart = λ r. both_ways (bit m v u) (not_true (bit m v u) both.1) ((c v u hv hu).1 r) }
+      record { there = (c u v hu hv).0 both.0; apart = λ r. both_ways (bit m v u) (not-true (bit m v u) both.1) ((c v u hv hu).1 r) }
 
   above_to : (u v : ℕ) → u < 256 → v < 256 → Above edge u v → above m u v ≡ true
   above_to u v hu hv a =

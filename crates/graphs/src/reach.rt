@@ -64,7 +64,7 @@ pub trait Graph {
 
 // Afterwards bit v of row u says whether u reaches v in the graph.
 pub fn reachable<G: Graph>(g: &G, m: &mut [u32; 2048])
-    ensures { Closure (edge g.now) m.new }
+    ensures { Closure (G.edge g.now) m.new }
 {
     crate::bits::clear(m, 2048);
     g.draw(m);

@@ -1,6 +1,6 @@
 -- The representative of a variable, from flags and class numbers.
 use Rattle.std.proofs.Common.{◌≡◌, ℕ, zero, suc, ◌+◌, ◌<◌, ◌≤◌, Bool, true, false, cond, not, ◌&&◌, T, List, get_or, sym, refl, ap, ◌∙◌, subst, arith}
-use Rattle.std.proofs.lemmas.Bool.{and_from, and_parts, not_true, not_from_false}
+use Rattle.std.proofs.lemmas.Bool.{and_from, and_parts, not-true, not_from_false}
 use Rattle.constraints.specs.Finite.{any, lowest}
 use Rattle.constraints.specs.Constraint.{System, var_count}
 use Rattle.constraints.specs.Merge.{is_open, representative, open_peer, plain_peer}
@@ -32,7 +32,7 @@ module _ (sys : System) (same : ℕ → ℕ → Bool) (flags : List Bool) (class
   plain_to : (u : ℕ) → u < n → T (plain_peer sys same v u) → Peer flags class false v u
   plain_to u h t =
       let parts = and_parts (not (is_open sys u)) (same u v) (T_true t) in
-      (told u (in_sys u h) ∙ not_true (is_open sys u) parts.0, (numbers u v (in_sys u h) (in_sys v inside)).0 parts.1)
+      (told u (in_sys u h) ∙ not-true (is_open sys u) parts.0, (numbers u v (in_sys u h) (in_sys v inside)).0 parts.1)
 
   pub stays : get_or flags v false ≡ true → v ≡ representative sys same v
   unfolding representative

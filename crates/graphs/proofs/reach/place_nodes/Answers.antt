@@ -6,7 +6,7 @@ use Rattle.graphs.proofs.reach.place_nodes.Goals as goal
 pub loop-u-preserved : goal.loop-u-preserved
 loop-u-preserved c =
     let first = c.place-p.ensures in
-    let put = c.insert-at.ensures in (
+    let put = c.insert_at.ensures in (
       nodes_more _ _ _ _ first.within c.loop-u.invariant.0 put,
       λ edge closure. arranged_more edge _ closure _ _ _ _ (omega arith) (c.loop-u.invariant.1 edge closure) first put,
     )
