@@ -54,8 +54,8 @@ impl<S: RowStore> Grower for Difference<S> {
 
 // Hands the pending pairs on until there is none.
 fn run<S: RowStore>(list: &ConstraintList, work: &mut Difference<S>) -> Result<(), StoreFault>
-    requires ready { Ready (system_of list.now) work.old.taken (pairs work.old.store) work.old.pending }
-    ensures { Grown (λ d. pairs d.store) (λ d. room d.store) Any (Solves (first work.old.taken (system_of list.now))) work.old work.new (Solves (first work.old.taken (system_of list.now)) (pairs work.new.store) × Idle (pairs work.new.store) work.new.pending) result }
+    requires ready { Ready (system_of list.now) work.old.taken (S.pairs work.old.store) work.old.pending }
+    ensures { Grown (λ d. S.pairs d.store) (λ d. S.room d.store) Any (Solves (first work.old.taken (system_of list.now))) work.old work.new (Solves (first work.old.taken (system_of list.now)) (S.pairs work.new.store) × Idle (S.pairs work.new.store) work.new.pending) result }
 {
     while let Some((v, o)) = work.pending.first() {
         work.pending.advance();
@@ -102,8 +102,8 @@ impl<S: RowStore> Propagation for Difference<S> {
 
 // A solver by difference propagation, over a store in any state.
 pub fn difference_over<S: RowStore>(store: S) -> Solver<Difference<S>>
-    ensures means { solver_meaning (room result.work.store) (system_of result.list) result.settled ≡ solver_meaning (room store) no_words false }
-    ensures keeps { Solved (pairs result.work.store) (system_of result.list) result.settled }
+    ensures means { solver_meaning (S.room result.work.store) (system_of result.list) result.settled ≡ solver_meaning (S.room store) no_words false }
+    ensures keeps { Solved (S.pairs result.work.store) (system_of result.list) result.settled }
 {
     Solver::new(Difference {
         store,

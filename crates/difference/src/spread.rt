@@ -15,7 +15,7 @@ use walks::{Grower, load_from, store_into};
 // Whether row v holds o.
 fn holds<G: Grower>(g: &G, v: u16, o: u16) -> Result<bool, StoreFault>
     requires variable { v < 256 }
-    ensures { elim result [ Ok b ↦ b ≡ rows g.now v o | Err e ↦ ⊥ ] }
+    ensures { elim result [ Ok b ↦ b ≡ G.rows g.now v o | Err e ↦ ⊥ ] }
 {
     match g.next(v, o)? {
         Some(x) => Ok(x == o),
@@ -34,7 +34,7 @@ fn load_base<G: Grower>(
     o: u16,
 ) -> Result<(), StoreFault>
     requires target { p < 256 }
-    ensures { Grown rows limit (notes (system_of list.now)) (λ R. LoadBase (system_of list.now).blocks p q k v o (pairs R) (pairs R)) g.old g.new (LoadBase (system_of list.now).blocks p q k v o (pairs (rows g.old)) (pairs (rows g.new))) result }
+    ensures { Grown G.rows G.limit (G.notes (system_of list.now)) (λ R. LoadBase (system_of list.now).blocks p q k v o (pairs R) (pairs R)) g.old g.new (LoadBase (system_of list.now).blocks p q k v o (pairs (G.rows g.old)) (pairs (G.rows g.new))) result }
 {
     if q == v {
         load_from(list, g, p, o, k)
@@ -56,7 +56,7 @@ fn load_value<G: Grower>(
     requires target { p < 256 }
     requires source { q < 256 }
     requires object { o < 256 }
-    ensures { Grown rows limit (notes (system_of list.now)) (λ R. LoadValue (system_of list.now).blocks p q k v o (pairs R) (pairs R)) g.old g.new (LoadValue (system_of list.now).blocks p q k v o (pairs (rows g.old)) (pairs (rows g.new))) result }
+    ensures { Grown G.rows G.limit (G.notes (system_of list.now)) (λ R. LoadValue (system_of list.now).blocks p q k v o (pairs R) (pairs R)) g.old g.new (LoadValue (system_of list.now).blocks p q k v o (pairs (G.rows g.old)) (pairs (G.rows g.new))) result }
 {
     if k > v {
         return Ok(());
@@ -85,8 +85,8 @@ fn spread_load<G: Grower>(
     requires target { p < 256 }
     requires source { q < 256 }
     requires object { o < 256 }
-    requires held { T (rows g.old v o) }
-    ensures { Grown rows limit (notes (system_of list.now)) (λ R. Meets (system_of list.now).blocks (load p q k) (pairs R)) g.old g.new (Handed (system_of list.now).blocks (load p q k) v o (pairs (rows g.old)) (pairs (rows g.new))) result }
+    requires held { T (G.rows g.old v o) }
+    ensures { Grown G.rows G.limit (G.notes (system_of list.now)) (λ R. Meets (system_of list.now).blocks (load p q k) (pairs R)) g.old g.new (Handed (system_of list.now).blocks (load p q k) v o (pairs (G.rows g.old)) (pairs (G.rows g.new))) result }
 {
     load_base(list, g, p, q, k, v, o)?;
     load_value(list, g, p, q, k, v, o)
@@ -103,7 +103,7 @@ fn store_base<G: Grower>(
     o: u16,
 ) -> Result<(), StoreFault>
     requires source { q < 256 }
-    ensures { Grown rows limit (notes (system_of list.now)) (λ R. StoreBase (system_of list.now).blocks p k q v o (pairs R) (pairs R)) g.old g.new (StoreBase (system_of list.now).blocks p k q v o (pairs (rows g.old)) (pairs (rows g.new))) result }
+    ensures { Grown G.rows G.limit (G.notes (system_of list.now)) (λ R. StoreBase (system_of list.now).blocks p k q v o (pairs R) (pairs R)) g.old g.new (StoreBase (system_of list.now).blocks p k q v o (pairs (G.rows g.old)) (pairs (G.rows g.new))) result }
 {
     if p == v {
         store_into(list, g, o, k, q)
@@ -121,7 +121,7 @@ fn put_at<G: Grower>(
     o: u16,
 ) -> Result<(), StoreFault>
     requires object { o < 256 }
-    ensures { Grown rows limit (notes (system_of list.now)) (λ R. (k < length_of (system_of list.now).blocks y → T (R (y + k) o))) g.old g.new (k < length_of (system_of list.now).blocks y → T (rows g.new (y + k) o)) result }
+    ensures { Grown G.rows G.limit (G.notes (system_of list.now)) (λ R. (k < length_of (system_of list.now).blocks y → T (R (y + k) o))) g.old g.new (k < length_of (system_of list.now).blocks y → T (G.rows g.new (y + k) o)) result }
 {
     if k < u16::from(list.length_of(y as usize)) {
         g.add(list, y + k, o)
@@ -140,7 +140,7 @@ fn store_each<G: Grower>(
 ) -> Result<(), StoreFault>
     requires target { p < 256 }
     requires object { o < 256 }
-    ensures { Grown rows limit (notes (system_of list.now)) (λ R. ((y : ℕ) → T (R p y) → k < length_of (system_of list.now).blocks y → T (R (y + k) o))) g.old g.new ((y : ℕ) → T (rows g.old p y) → k < length_of (system_of list.now).blocks y → T (rows g.new (y + k) o)) result }
+    ensures { Grown G.rows G.limit (G.notes (system_of list.now)) (λ R. ((y : ℕ) → T (R p y) → k < length_of (system_of list.now).blocks y → T (R (y + k) o))) g.old g.new ((y : ℕ) → T (G.rows g.old p y) → k < length_of (system_of list.now).blocks y → T (G.rows g.new (y + k) o)) result }
 {
     let mut at = 0;
     while let Some(y) = g.next(p, at)? {
@@ -162,7 +162,7 @@ fn store_value<G: Grower>(
 ) -> Result<(), StoreFault>
     requires target { p < 256 }
     requires object { o < 256 }
-    ensures { Grown rows limit (notes (system_of list.now)) (λ R. StoreValue (system_of list.now).blocks p k q v o (pairs R) (pairs R)) g.old g.new (StoreValue (system_of list.now).blocks p k q v o (pairs (rows g.old)) (pairs (rows g.new))) result }
+    ensures { Grown G.rows G.limit (G.notes (system_of list.now)) (λ R. StoreValue (system_of list.now).blocks p k q v o (pairs R) (pairs R)) g.old g.new (StoreValue (system_of list.now).blocks p k q v o (pairs (G.rows g.old)) (pairs (G.rows g.new))) result }
 {
     if q == v {
         store_each(list, g, p, k, o)
@@ -184,8 +184,8 @@ fn spread_store<G: Grower>(
     requires target { p < 256 }
     requires source { q < 256 }
     requires object { o < 256 }
-    requires held { T (rows g.old v o) }
-    ensures { Grown rows limit (notes (system_of list.now)) (λ R. Meets (system_of list.now).blocks (store p k q) (pairs R)) g.old g.new (Handed (system_of list.now).blocks (store p k q) v o (pairs (rows g.old)) (pairs (rows g.new))) result }
+    requires held { T (G.rows g.old v o) }
+    ensures { Grown G.rows G.limit (G.notes (system_of list.now)) (λ R. Meets (system_of list.now).blocks (store p k q) (pairs R)) g.old g.new (Handed (system_of list.now).blocks (store p k q) v o (pairs (G.rows g.old)) (pairs (G.rows g.new))) result }
 {
     store_base(list, g, p, k, q, v, o)?;
     store_value(list, g, p, k, q, v, o)
@@ -202,7 +202,7 @@ fn spread_copy<G: Grower>(
 ) -> Result<(), StoreFault>
     requires target { p < 256 }
     requires object { o < 256 }
-    ensures { Grown rows limit (notes (system_of list.now)) (λ R. (q ≡ v → T (R p o))) g.old g.new (q ≡ v → T (rows g.new p o)) result }
+    ensures { Grown G.rows G.limit (G.notes (system_of list.now)) (λ R. (q ≡ v → T (R p o))) g.old g.new (q ≡ v → T (G.rows g.new p o)) result }
 {
     if q == v { g.add(list, p, o) } else { Ok(()) }
 }
@@ -217,8 +217,8 @@ pub fn spread<G: Grower>(
 ) -> Result<(), StoreFault>
     requires known { Below 256 c }
     requires object { o < 256 }
-    requires held { T (rows g.old v o) }
-    ensures { Grown rows limit (notes (system_of list.now)) (λ R. Meets (system_of list.now).blocks c (pairs R)) g.old g.new (Handed (system_of list.now).blocks c v o (pairs (rows g.old)) (pairs (rows g.new))) result }
+    requires held { T (G.rows g.old v o) }
+    ensures { Grown G.rows G.limit (G.notes (system_of list.now)) (λ R. Meets (system_of list.now).blocks c (pairs R)) g.old g.new (Handed (system_of list.now).blocks c v o (pairs (G.rows g.old)) (pairs (G.rows g.new))) result }
 {
     match c {
         Constraint::Address { .. } => Ok(()),
@@ -246,8 +246,8 @@ pub fn hand_on<G: Grower>(
 ) -> Result<(), StoreFault>
     requires short { n ≤ length (system_of list.now).words }
     requires object { o < 256 }
-    requires held { T (rows g.old v o) }
-    ensures { Grown rows limit (notes (system_of list.now)) (Solves (first n (system_of list.now))) g.old g.new ((j : ℕ) → j < n → Handed (system_of list.now).blocks (constraint (system_of list.now) j) v o (pairs (rows g.old)) (pairs (rows g.new))) result }
+    requires held { T (G.rows g.old v o) }
+    ensures { Grown G.rows G.limit (G.notes (system_of list.now)) (Solves (first n (system_of list.now))) g.old g.new ((j : ℕ) → j < n → Handed (system_of list.now).blocks (constraint (system_of list.now) j) v o (pairs (G.rows g.old)) (pairs (G.rows g.new))) result }
 {
     let words = list.words();
     for j in 0..n {

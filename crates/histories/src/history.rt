@@ -31,11 +31,11 @@ fn answer(outcome: Result<bool, Refusal>) -> Reply
 
 // Asks one question.
 fn ask<E: Engine>(analyser: &mut Analyser<E>, question: &Question) -> Reply
-    requires { InStep meaning sound analyser.old }
+    requires { InStep E.meaning E.sound analyser.old }
     ensures says { Answers (book_of analyser.old) question.now result }
     ensures book { book_of analyser.new ≡ book_of analyser.old }
-    ensures rule { (meaning analyser.new.engine).rule ≡ (meaning analyser.old.engine).rule }
-    ensures keeps { InStep meaning sound analyser.new }
+    ensures rule { (E.meaning analyser.new.engine).rule ≡ (E.meaning analyser.old.engine).rule }
+    ensures keeps { InStep E.meaning E.sound analyser.new }
 {
     match *question {
         Question::Points { place, name } => answer(analyser.points(place, name)),
@@ -51,11 +51,11 @@ fn list<E: Engine>(
     index: u32,
     before: &[u8],
 ) -> Result<Reply, AllocError>
-    requires { InStep meaning sound analyser.old }
+    requires { InStep E.meaning E.sound analyser.old }
     ensures says { IfOk result (λ s. TargetsSays (book_of analyser.old) unit index before.now s) }
     ensures book { book_of analyser.new ≡ book_of analyser.old }
-    ensures rule { (meaning analyser.new.engine).rule ≡ (meaning analyser.old.engine).rule }
-    ensures keeps { InStep meaning sound analyser.new }
+    ensures rule { (E.meaning analyser.new.engine).rule ≡ (E.meaning analyser.old.engine).rule }
+    ensures keeps { InStep E.meaning E.sound analyser.new }
 {
     let mut buffer = before.to_vec(heap)?;
     let outcome = analyser.targets(unit, index, &mut buffer);
@@ -68,11 +68,11 @@ fn make<E: Engine>(
     analyser: &mut Analyser<E>,
     call: &Call,
 ) -> Result<Reply, AllocError>
-    requires { InStep meaning sound analyser.old }
-    ensures says { IfOk result (λ s. Says (meaning analyser.old.engine).rule (book_of analyser.old) call.now s) }
-    ensures after { book_of analyser.new ≡ next_book (meaning analyser.old.engine).rule (book_of analyser.old) call.now }
-    ensures rule { (meaning analyser.new.engine).rule ≡ (meaning analyser.old.engine).rule }
-    ensures keeps { InStep meaning sound analyser.new }
+    requires { InStep E.meaning E.sound analyser.old }
+    ensures says { IfOk result (λ s. Says (E.meaning analyser.old.engine).rule (book_of analyser.old) call.now s) }
+    ensures after { book_of analyser.new ≡ next_book (E.meaning analyser.old.engine).rule (book_of analyser.old) call.now }
+    ensures rule { (E.meaning analyser.new.engine).rule ≡ (E.meaning analyser.old.engine).rule }
+    ensures keeps { InStep E.meaning E.sound analyser.new }
 {
     match *call {
         Call::Settle => match analyser.settle() {
@@ -103,11 +103,11 @@ fn run<E: Engine, P: Progress>(
     calls: &[Call],
     progress: &mut P,
 ) -> Result<Vec<Reply>, AllocError>
-    requires { InStep meaning sound analyser.old }
-    ensures says { IfOk result (λ v. History (meaning analyser.old.engine).rule (book_of analyser.old) calls.now v.items) }
-    ensures after { OnOk result (book_of analyser.new ≡ book_from (meaning analyser.old.engine).rule (book_of analyser.old) calls.now) }
-    ensures rule { OnOk result ((meaning analyser.new.engine).rule ≡ (meaning analyser.old.engine).rule) }
-    ensures keeps { OnOk result (InStep meaning sound analyser.new) }
+    requires { InStep E.meaning E.sound analyser.old }
+    ensures says { IfOk result (λ v. History (E.meaning analyser.old.engine).rule (book_of analyser.old) calls.now v.items) }
+    ensures after { OnOk result (book_of analyser.new ≡ book_from (E.meaning analyser.old.engine).rule (book_of analyser.old) calls.now) }
+    ensures rule { OnOk result ((E.meaning analyser.new.engine).rule ≡ (E.meaning analyser.old.engine).rule) }
+    ensures keeps { OnOk result (InStep E.meaning E.sound analyser.new) }
 {
     let mut replies = Vec::new(heap);
     for c in calls {
@@ -125,7 +125,7 @@ pub fn replay<E: Engine + Drop, P: Progress>(
     history: &[Call],
     progress: &mut P,
 ) -> Result<Vec<Reply>, AllocError>
-    ensures { IfOk result (λ v. History (meaning engine).rule new_book history.now v.items) }
+    ensures { IfOk result (λ v. History (E.meaning engine).rule new_book history.now v.items) }
 {
     let mut analyser = Analyser::new(engine);
     run(heap, &mut analyser, history, progress)

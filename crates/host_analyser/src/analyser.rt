@@ -27,8 +27,8 @@ impl<E: Engine> Analyser<E> {
     // Over an engine in any state.
     pub fn new(engine: E) -> Self
         ensures made { book_of result ≡ new_book }
-        ensures rule { (meaning result.engine).rule ≡ (meaning engine).rule }
-        ensures keeps { InStep meaning sound result }
+        ensures rule { (E.meaning result.engine).rule ≡ (E.meaning engine).rule }
+        ensures keeps { InStep E.meaning E.sound result }
     {
         Analyser {
             units: StandingUnits::new(),
@@ -42,8 +42,8 @@ impl<E: Engine> Analyser<E> {
     pub fn load(&mut self, unit: u32, text: &[u8]) -> Result<(), Refusal>
         ensures replies { result ≡ result_of (load_refusal (book_of self.old).units unit text.now) }
         ensures after { book_of self.new ≡ load_book (book_of self.old) unit text.now }
-        ensures rule { (meaning self.new.engine).rule ≡ (meaning self.old.engine).rule }
-        ensures keeps { InStep meaning sound self.old → InStep meaning sound self.new }
+        ensures rule { (E.meaning self.new.engine).rule ≡ (E.meaning self.old.engine).rule }
+        ensures keeps { InStep E.meaning E.sound self.old → InStep E.meaning E.sound self.new }
     {
         self.units.load(unit, text)?;
         self.settled = false; // the rows are those of fewer texts
@@ -54,8 +54,8 @@ impl<E: Engine> Analyser<E> {
     pub fn unload(&mut self, unit: u32) -> Result<(), Refusal>
         ensures replies { result ≡ result_of (unload_refusal (book_of self.old).units unit) }
         ensures after { book_of self.new ≡ unload_book (book_of self.old) unit }
-        ensures rule { (meaning self.new.engine).rule ≡ (meaning self.old.engine).rule }
-        ensures keeps { InStep meaning sound self.old → InStep meaning sound self.new }
+        ensures rule { (E.meaning self.new.engine).rule ≡ (E.meaning self.old.engine).rule }
+        ensures keeps { InStep E.meaning E.sound self.old → InStep E.meaning E.sound self.new }
     {
         self.units.unload(unit)?;
         self.settled = false; // the rows are those of more texts
@@ -64,10 +64,10 @@ impl<E: Engine> Analyser<E> {
 
     // Hands the list of the standing units to the engine.
     pub fn settle(&mut self) -> Result<(), Refusal>
-        ensures replies { SettleResult (meaning self.old.engine).rule (book_of self.old) result }
-        ensures after { book_of self.new ≡ settle_book (meaning self.old.engine).rule (book_of self.old) }
-        ensures rule { (meaning self.new.engine).rule ≡ (meaning self.old.engine).rule }
-        ensures keeps { InStep meaning sound self.old → InStep meaning sound self.new }
+        ensures replies { SettleResult (E.meaning self.old.engine).rule (book_of self.old) result }
+        ensures after { book_of self.new ≡ settle_book (E.meaning self.old.engine).rule (book_of self.old) }
+        ensures rule { (E.meaning self.new.engine).rule ≡ (E.meaning self.old.engine).rule }
+        ensures keeps { InStep E.meaning E.sound self.old → InStep E.meaning E.sound self.new }
     {
         if self.settled {
             return Err(Refusal::SettledAlready);
@@ -80,10 +80,10 @@ impl<E: Engine> Analyser<E> {
 
     // Whether a place's row has a name's object.
     pub fn points(&mut self, place: &[u8], name: &[u8]) -> Result<bool, Refusal>
-        ensures replies { InStep meaning sound self.old → result ≡ points_reply (book_of self.old) place.now name.now }
+        ensures replies { InStep E.meaning E.sound self.old → result ≡ points_reply (book_of self.old) place.now name.now }
         ensures book { book_of self.new ≡ book_of self.old }
-        ensures rule { (meaning self.new.engine).rule ≡ (meaning self.old.engine).rule }
-        ensures keeps { InStep meaning sound self.old → InStep meaning sound self.new }
+        ensures rule { (E.meaning self.new.engine).rule ≡ (E.meaning self.old.engine).rule }
+        ensures keeps { InStep E.meaning E.sound self.old → InStep E.meaning E.sound self.new }
     {
         if !self.settled {
             return Err(Refusal::NotSettled);
@@ -99,10 +99,10 @@ impl<E: Engine> Analyser<E> {
 
     // Whether the rows of two places share an object.
     pub fn alias(&mut self, first: &[u8], second: &[u8]) -> Result<bool, Refusal>
-        ensures replies { InStep meaning sound self.old → result ≡ alias_reply (book_of self.old) first.now second.now }
+        ensures replies { InStep E.meaning E.sound self.old → result ≡ alias_reply (book_of self.old) first.now second.now }
         ensures book { book_of self.new ≡ book_of self.old }
-        ensures rule { (meaning self.new.engine).rule ≡ (meaning self.old.engine).rule }
-        ensures keeps { InStep meaning sound self.old → InStep meaning sound self.new }
+        ensures rule { (E.meaning self.new.engine).rule ≡ (E.meaning self.old.engine).rule }
+        ensures keeps { InStep E.meaning E.sound self.old → InStep E.meaning E.sound self.new }
     {
         if !self.settled {
             return Err(Refusal::NotSettled);
@@ -119,11 +119,11 @@ impl<E: Engine> Analyser<E> {
     // Writes the functions in the row of the pointer of the unit's indirect call `index`, from 0, by rising object, each
     // name followed by byte 10; answers how many bytes that is. The rest of the buffer stays.
     pub fn targets(&mut self, unit: u32, index: u32, buffer: &mut [u8]) -> Result<usize, Refusal>
-        ensures replies { InStep meaning sound self.old → result ≡ targets_reply (book_of self.old) unit index buffer.old }
-        ensures writes { InStep meaning sound self.old → buffer.new ≡ targets_buffer (book_of self.old) unit index buffer.old }
+        ensures replies { InStep E.meaning E.sound self.old → result ≡ targets_reply (book_of self.old) unit index buffer.old }
+        ensures writes { InStep E.meaning E.sound self.old → buffer.new ≡ targets_buffer (book_of self.old) unit index buffer.old }
         ensures book { book_of self.new ≡ book_of self.old }
-        ensures rule { (meaning self.new.engine).rule ≡ (meaning self.old.engine).rule }
-        ensures keeps { InStep meaning sound self.old → InStep meaning sound self.new }
+        ensures rule { (E.meaning self.new.engine).rule ≡ (E.meaning self.old.engine).rule }
+        ensures keeps { InStep E.meaning E.sound self.old → InStep E.meaning E.sound self.new }
     {
         if !self.settled {
             return Err(Refusal::NotSettled);

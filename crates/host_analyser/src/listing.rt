@@ -51,11 +51,11 @@ fn put_target<E: Engine>(
     n: usize,
 ) -> usize
     requires { n ≤ 6400 }
-    ensures written { BlockAnswers (meaning engine.old) (sound engine.old) v first name.now → out.new ≡ overlaid out.old n (target_line (least (meaning engine.old).system v) size first name.now) }
-    ensures count { BlockAnswers (meaning engine.old) (sound engine.old) v first name.now → result ≡ n + length (target_line (least (meaning engine.old).system v) size first name.now) }
+    ensures written { BlockAnswers (E.meaning engine.old) (E.sound engine.old) v first name.now → out.new ≡ overlaid out.old n (target_line (least (E.meaning engine.old).system v) size first name.now) }
+    ensures count { BlockAnswers (E.meaning engine.old) (E.sound engine.old) v first name.now → result ≡ n + length (target_line (least (E.meaning engine.old).system v) size first name.now) }
     ensures bound { result ≤ n + 25 }
-    ensures stays { meaning engine.new ≡ meaning engine.old }
-    ensures keeps { sound engine.old → sound engine.new }
+    ensures stays { E.meaning engine.new ≡ E.meaning engine.old }
+    ensures keeps { E.sound engine.old → E.sound engine.new }
 {
     if size < 2 {
         return n;
@@ -78,10 +78,10 @@ pub(crate) fn list_targets<E: Engine>(
     v: u8,
     out: &mut [u8],
 ) -> usize
-    ensures written { (es : List Entry) → Tabled es (meaning engine.old).system (units_of units.now) (list_in list.now) (owners_in list.now) → AnswersFor (meaning engine.old) (sound engine.old) v → out.new ≡ overlaid out.old 0 (listingOf es (least (meaning engine.old).system v)) }
-    ensures count { (es : List Entry) → Tabled es (meaning engine.old).system (units_of units.now) (list_in list.now) (owners_in list.now) → AnswersFor (meaning engine.old) (sound engine.old) v → result ≡ length (listingOf es (least (meaning engine.old).system v)) }
-    ensures stays { meaning engine.new ≡ meaning engine.old }
-    ensures keeps { sound engine.old → sound engine.new }
+    ensures written { (es : List Entry) → Tabled es (E.meaning engine.old).system (units_of units.now) (list_in list.now) (owners_in list.now) → AnswersFor (E.meaning engine.old) (E.sound engine.old) v → out.new ≡ overlaid out.old 0 (listingOf es (least (E.meaning engine.old).system v)) }
+    ensures count { (es : List Entry) → Tabled es (E.meaning engine.old).system (units_of units.now) (list_in list.now) (owners_in list.now) → AnswersFor (E.meaning engine.old) (E.sound engine.old) v → result ≡ length (listingOf es (least (E.meaning engine.old).system v)) }
+    ensures stays { E.meaning engine.new ≡ E.meaning engine.old }
+    ensures keeps { E.sound engine.old → E.sound engine.new }
 {
     let blocks = list.blocks();
     let owners = list.owners();

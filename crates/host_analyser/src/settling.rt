@@ -14,8 +14,8 @@ use standing::units::StandingUnits;
 // Clears the engine, hands it the list and settles it.
 fn settle_engine<E: Engine>(engine: &mut E, list: &UnitList) -> Result<(), EngineFault>
     requires { Valid (list_in list.now) }
-    ensures settles { Settles (gathering (meaning engine.old) (list_in list.now)) (meaning engine.new) result }
-    ensures keeps { sound engine.new }
+    ensures settles { Settles (gathering (E.meaning engine.old) (list_in list.now)) (E.meaning engine.new) result }
+    ensures keeps { E.sound engine.new }
 {
     hand_down(engine, list.blocks(), list.words())?;
     engine.settle()
@@ -52,8 +52,8 @@ pub(crate) fn settle_list<E: Engine>(
     list: &UnitList,
 ) -> Result<(), RoomFault>
     requires { Valid (list_in list.now) }
-    ensures settles { HandsDown (meaning engine.old) (meaning engine.new) (list_in list.now) (units_of units.now) (listed_in list.now) result }
-    ensures keeps { sound engine.new }
+    ensures settles { HandsDown (E.meaning engine.old) (E.meaning engine.new) (list_in list.now) (units_of units.now) (listed_in list.now) result }
+    ensures keeps { E.sound engine.new }
 {
     match settle_engine(engine, list) {
         Ok(()) => Ok(()),

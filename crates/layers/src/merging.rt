@@ -71,8 +71,8 @@ fn hand_plan<E: Engine>(below: &mut E, plan: &Plan) -> Result<(), EngineFault>
     requires counted { plan.now.count ≤ 512 }
     requires valid { Valid (record { blocks = (system_of plan.now.own).blocks; words = take plan.now.count plan.now.remaining }) }
     ensures done { result ≡ Ok tt }
-    ensures after { meaning below.new ≡ gathering (meaning below.old) (record { blocks = (system_of plan.now.own).blocks; words = take plan.now.count plan.now.remaining }) }
-    ensures keeps { sound below.new }
+    ensures after { E.meaning below.new ≡ gathering (E.meaning below.old) (record { blocks = (system_of plan.now.own).blocks; words = take plan.now.count plan.now.remaining }) }
+    ensures keeps { E.sound below.new }
 {
     hand_down(below, plan.own.blocks(), &plan.remaining[..plan.count])
 }
@@ -114,8 +114,8 @@ pub struct Merging<M: Merge, E: Engine> {
 impl<M: Merge, E: Engine> Merging<M, E> {
     // Empty and gathering, over an engine in any state.
     pub fn new(merge: M, below: E) -> Self
-        ensures meaning { layered M.Merge.same (meaning result.below) (system_of result.plan.own) result.settled ≡ layered M.Merge.same (meaning below) no_words false }
-        ensures safe { LayerSound result.settled (sound result.below) (meaning result.below) M.Merge.same result.plan }
+        ensures meaning { layered M.Merge.same (E.meaning result.below) (system_of result.plan.own) result.settled ≡ layered M.Merge.same (E.meaning below) no_words false }
+        ensures safe { LayerSound result.settled (E.sound result.below) (E.meaning result.below) M.Merge.same result.plan }
     {
         let plan = Plan {
             own: ConstraintList::new(),
@@ -133,7 +133,7 @@ impl<M: Merge, E: Engine> Merging<M, E> {
 
     // How many variables are replaced, 0 while gathering.
     pub fn replaced(&self) -> u16
-        ensures { LayerSound self.now.settled (sound self.now.below) (meaning self.now.below) M.Merge.same self.now.plan → result ≡ replaced_count M.Merge.same self.now.settled (system_of self.now.plan.own) }
+        ensures { LayerSound self.now.settled (E.sound self.now.below) (E.meaning self.now.below) M.Merge.same self.now.plan → result ≡ replaced_count M.Merge.same self.now.settled (system_of self.now.plan.own) }
     {
         if !self.settled {
             return 0;
@@ -143,7 +143,7 @@ impl<M: Merge, E: Engine> Merging<M, E> {
 
     // The variable that stands for v, once settled.
     pub fn representative(&self, v: u16) -> Option<u16>
-        ensures { LayerSound self.now.settled (sound self.now.below) (meaning self.now.below) M.Merge.same self.now.plan → result ≡ stands_for M.Merge.same self.now.settled (system_of self.now.plan.own) v }
+        ensures { LayerSound self.now.settled (E.sound self.now.below) (E.meaning self.now.below) M.Merge.same self.now.plan → result ≡ stands_for M.Merge.same self.now.settled (system_of self.now.plan.own) v }
     {
         if !self.settled {
             return None;
@@ -156,7 +156,7 @@ impl<M: Merge, E: Engine> Merging<M, E> {
 
     // The words handed down, once settled; none while gathering.
     pub fn handed(&self) -> &[u32]
-        ensures { LayerSound self.now.settled (sound self.now.below) (meaning self.now.below) M.Merge.same self.now.plan → result.now ≡ handed_words M.Merge.same self.now.settled (system_of self.now.plan.own) }
+        ensures { LayerSound self.now.settled (E.sound self.now.below) (E.meaning self.now.below) M.Merge.same self.now.plan → result.now ≡ handed_words M.Merge.same self.now.settled (system_of self.now.plan.own) }
     {
         let n = if self.settled {
             self.plan.count.min(512)

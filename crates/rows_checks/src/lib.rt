@@ -29,9 +29,9 @@ pub enum Reply {
 
 // One operation.
 pub fn run<S: RowStore>(store: &mut S, operation: Operation) -> Reply
-    ensures reply { result ≡ reply_of operation (room store.old) (pairs store.old) }
-    ensures after { pairs store.new ≡ pairs_after operation (room store.old) (pairs store.old) }
-    ensures fixed { room store.new ≡ room store.old }
+    ensures reply { result ≡ reply_of operation (S.room store.old) (S.pairs store.old) }
+    ensures after { S.pairs store.new ≡ pairs_after operation (S.room store.old) (S.pairs store.old) }
+    ensures fixed { S.room store.new ≡ S.room store.old }
 {
     match operation {
         Operation::Wipe => {

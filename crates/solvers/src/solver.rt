@@ -13,8 +13,8 @@ use engine::{Engine, EngineFault, Stopped};
 // Takes the words in, one by one. The word at which the store is full is the earliest whose list does not fit:
 // before it the rows were those of a list that does.
 fn settle_list<P: Propagation>(list: &ConstraintList, work: &mut P) -> Result<(), Stopped>
-    ensures settles { SettledList (limit work.old) (system_of list.now) (rows work.new) result }
-    ensures fixed { limit work.new ≡ limit work.old }
+    ensures settles { SettledList (P.limit work.old) (system_of list.now) (P.rows work.new) result }
+    ensures fixed { P.limit work.new ≡ P.limit work.old }
 {
     work.restart();
     for i in 0..list.words().len() {
@@ -40,8 +40,8 @@ pub struct Solver<P: Propagation> {
 impl<P: Propagation> Solver<P> {
     // Empty and gathering, over rows in any state.
     pub fn new(work: P) -> Self
-        ensures means { solver_meaning (limit result.work) (system_of result.list) result.settled ≡ solver_meaning (limit work) no_words false }
-        ensures keeps { Solved (rows result.work) (system_of result.list) result.settled }
+        ensures means { solver_meaning (P.limit result.work) (system_of result.list) result.settled ≡ solver_meaning (P.limit work) no_words false }
+        ensures keeps { Solved (P.rows result.work) (system_of result.list) result.settled }
     {
         Solver {
             list: ConstraintList::new(),
@@ -52,7 +52,7 @@ impl<P: Propagation> Solver<P> {
 
     // Whether a question about row v is answered.
     fn admit(&self, v: u16) -> Result<(), EngineFault>
-        ensures { result ≡ answer (solver_meaning (limit self.now.work) (system_of self.now.list) self.now.settled) (nat_lt v (var_count (system_of self.now.list))) tt }
+        ensures { result ≡ answer (solver_meaning (P.limit self.now.work) (system_of self.now.list) self.now.settled) (nat_lt v (var_count (system_of self.now.list))) tt }
     {
         if !self.settled {
             return Err(EngineFault::Gathering);

@@ -39,8 +39,8 @@ fn list_statement<N: FirstVariables>(
     k: usize,
 ) -> usize
     requires { k ≤ 28672 }
-    ensures written { out.new ≡ overlaid out.old (from + k) (listed (first names.now) unit (statement_in text.now found)) }
-    ensures count { result ≡ k + length (listed (first names.now) unit (statement_in text.now found)) }
+    ensures written { out.new ≡ overlaid out.old (from + k) (listed (N.first names.now) unit (statement_in text.now found)) }
+    ensures count { result ≡ k + length (listed (N.first names.now) unit (statement_in text.now found)) }
     ensures few { result ≤ k + 7 }
 {
     let count = word_count(found.item);
@@ -61,8 +61,8 @@ pub fn list_words<N: FirstVariables>(
     out: &mut [ListedWord],
     from: usize,
 ) -> usize
-    ensures written { out.new ≡ overlaid out.old from (listingOf (first names.now) unit text.now) }
-    ensures count { result ≡ length (listingOf (first names.now) unit text.now) }
+    ensures written { out.new ≡ overlaid out.old from (listingOf (N.first names.now) unit text.now) }
+    ensures count { result ≡ length (listingOf (N.first names.now) unit text.now) }
 {
     if let Err(_) = check_text(text) {
         return 0;

@@ -27,14 +27,14 @@ pub fn slot_number(slot: Slot) -> u16
 // The variable at a slot of a name's block.
 fn variable_at<N: FirstVariables>(text: &[u8], names: &N, name: Span, slot: u16) -> u16
     requires { slot ≤ 256 }
-    ensures is { result ≡ variable (first names.now) (slot_of (name_in_text text.now name) slot) }
+    ensures is { result ≡ variable (N.first names.now) (slot_of (name_in_text text.now name) slot) }
     ensures small { result < 4096 }
 {
     names.first_of(bytes_of(text, name)) as u16 + slot
 }
 
 fn variable_of<N: FirstVariables>(text: &[u8], names: &N, place: Place) -> u16
-    ensures is { result ≡ variable (first names.now) (cell (place_in text.now place)) }
+    ensures is { result ≡ variable (N.first names.now) (cell (place_in text.now place)) }
     ensures small { result < 4096 }
 {
     variable_at(text, names, place.base, slot_number(place.slot))
@@ -60,7 +60,7 @@ fn argument_at<N: FirstVariables>(
     j: usize,
 ) -> u32
     requires { j < 6 }
-    ensures { result ≡ word (first names.now) (argument_word (callee_in text.now callee) (2 + j) (place_in text.now argument)) }
+    ensures { result ≡ word (N.first names.now) (argument_word (callee_in text.now callee) (2 + j) (place_in text.now argument)) }
 {
     let slot = 2 + j as u16;
     let right = variable_of(text, names, argument);
@@ -79,7 +79,7 @@ fn argument_at<N: FirstVariables>(
 
 // The word that gives the callee's result to the target.
 fn result_of<N: FirstVariables>(text: &[u8], names: &N, target: Place, callee: Callee) -> u32
-    ensures { result ≡ word (first names.now) (result_word (cell (place_in text.now target)) (callee_in text.now callee)) }
+    ensures { result ≡ word (N.first names.now) (result_word (cell (place_in text.now target)) (callee_in text.now callee)) }
 {
     let left = variable_of(text, names, target);
     match callee {
@@ -110,7 +110,7 @@ fn call_word<N: FirstVariables>(
     call: Call,
     i: usize,
 ) -> Option<u32>
-    ensures { result ≡ slice_get (map (word (first names.now)) (call_words (target_in text.now target) (call_in text.now call))) i }
+    ensures { result ≡ slice_get (map (word (N.first names.now)) (call_words (target_in text.now target) (call_in text.now call))) i }
 {
     let count = argument_count(call);
     if i < count {
@@ -134,7 +134,7 @@ fn assigned_word<N: FirstVariables>(
     value: Value,
     i: usize,
 ) -> Option<u32>
-    ensures { result ≡ slice_get (map (word (first names.now)) (value_words (place_in text.now target) (value_in text.now value))) i }
+    ensures { result ≡ slice_get (map (word (N.first names.now)) (value_words (place_in text.now target) (value_in text.now value))) i }
 {
     if let Value::Returned(call) = value {
         return call_word(text, names, Some(target), call, i);
@@ -163,7 +163,7 @@ fn assigned_word<N: FirstVariables>(
 
 // Word i, from 0, of a statement, by the first variable of each name.
 pub fn word_at<N: FirstVariables>(text: &[u8], names: &N, item: Item, i: usize) -> Option<u32>
-    ensures { result ≡ slice_get (map (word (first names.now)) (words_of (item_in text.now item))) i }
+    ensures { result ≡ slice_get (map (word (N.first names.now)) (words_of (item_in text.now item))) i }
 {
     match item {
         Item::Variable(..) | Item::Function(..) => None,

@@ -47,7 +47,7 @@ pub fn copy_row<G: Grower>(
 ) -> Result<(), StoreFault>
     requires target { p < 256 }
     requires source { q < 256 }
-    ensures { Grown rows limit (notes (system_of list.now)) (λ R. Includes p q (pairs R) (pairs R)) g.old g.new (Includes p q (pairs (rows g.old)) (pairs (rows g.new))) result }
+    ensures { Grown G.rows G.limit (G.notes (system_of list.now)) (λ R. Includes p q (pairs R) (pairs R)) g.old g.new (Includes p q (pairs (G.rows g.old)) (pairs (G.rows g.new))) result }
 {
     let mut at = 0;
     while let Some(o) = g.next(q, at)? {
@@ -66,7 +66,7 @@ pub fn load_from<G: Grower>(
     k: u16,
 ) -> Result<(), StoreFault>
     requires target { p < 256 }
-    ensures { Grown rows limit (notes (system_of list.now)) (λ R. (k < length_of (system_of list.now).blocks o → Includes p (o + k) (pairs R) (pairs R))) g.old g.new (k < length_of (system_of list.now).blocks o → Includes p (o + k) (pairs (rows g.old)) (pairs (rows g.new))) result }
+    ensures { Grown G.rows G.limit (G.notes (system_of list.now)) (λ R. (k < length_of (system_of list.now).blocks o → Includes p (o + k) (pairs R) (pairs R))) g.old g.new (k < length_of (system_of list.now).blocks o → Includes p (o + k) (pairs (G.rows g.old)) (pairs (G.rows g.new))) result }
 {
     if k < u16::from(list.length_of(o as usize)) {
         copy_row(list, g, p, o + k)
@@ -84,7 +84,7 @@ pub fn store_into<G: Grower>(
     q: u16,
 ) -> Result<(), StoreFault>
     requires source { q < 256 }
-    ensures { Grown rows limit (notes (system_of list.now)) (λ R. (k < length_of (system_of list.now).blocks o → Includes (o + k) q (pairs R) (pairs R))) g.old g.new (k < length_of (system_of list.now).blocks o → Includes (o + k) q (pairs (rows g.old)) (pairs (rows g.new))) result }
+    ensures { Grown G.rows G.limit (G.notes (system_of list.now)) (λ R. (k < length_of (system_of list.now).blocks o → Includes (o + k) q (pairs R) (pairs R))) g.old g.new (k < length_of (system_of list.now).blocks o → Includes (o + k) q (pairs (G.rows g.old)) (pairs (G.rows g.new))) result }
 {
     if k < u16::from(list.length_of(o as usize)) {
         copy_row(list, g, o + k, q)
@@ -103,7 +103,7 @@ pub fn walk_load<G: Grower>(
 ) -> Result<(), StoreFault>
     requires target { p < 256 }
     requires source { q < 256 }
-    ensures { Grown rows limit (notes (system_of list.now)) (λ R. Meets (system_of list.now).blocks (load p q k) (pairs R)) g.old g.new (Rule (system_of list.now).blocks (load p q k) (pairs (rows g.old)) (pairs (rows g.new))) result }
+    ensures { Grown G.rows G.limit (G.notes (system_of list.now)) (λ R. Meets (system_of list.now).blocks (load p q k) (pairs R)) g.old g.new (Rule (system_of list.now).blocks (load p q k) (pairs (G.rows g.old)) (pairs (G.rows g.new))) result }
 {
     let mut at = 0;
     while let Some(o) = g.next(q, at)? {
@@ -123,7 +123,7 @@ pub fn walk_store<G: Grower>(
 ) -> Result<(), StoreFault>
     requires target { p < 256 }
     requires source { q < 256 }
-    ensures { Grown rows limit (notes (system_of list.now)) (λ R. Meets (system_of list.now).blocks (store p k q) (pairs R)) g.old g.new (Rule (system_of list.now).blocks (store p k q) (pairs (rows g.old)) (pairs (rows g.new))) result }
+    ensures { Grown G.rows G.limit (G.notes (system_of list.now)) (λ R. Meets (system_of list.now).blocks (store p k q) (pairs R)) g.old g.new (Rule (system_of list.now).blocks (store p k q) (pairs (G.rows g.old)) (pairs (G.rows g.new))) result }
 {
     let mut at = 0;
     while let Some(o) = g.next(p, at)? {
@@ -137,7 +137,7 @@ pub fn walk_store<G: Grower>(
 // and unless the store refuses, what the rule asks from the rows as found is there afterwards.
 pub fn walk<G: Grower>(list: &ConstraintList, g: &mut G, c: Constraint) -> Result<(), StoreFault>
     requires known { Below 256 c }
-    ensures { Grown rows limit (notes (system_of list.now)) (λ R. Meets (system_of list.now).blocks c (pairs R)) g.old g.new (Rule (system_of list.now).blocks c (pairs (rows g.old)) (pairs (rows g.new))) result }
+    ensures { Grown G.rows G.limit (G.notes (system_of list.now)) (λ R. Meets (system_of list.now).blocks c (pairs R)) g.old g.new (Rule (system_of list.now).blocks c (pairs (G.rows g.old)) (pairs (G.rows g.new))) result }
 {
     match c {
         Constraint::Address { left, object } => g.add(list, left, object),

@@ -79,8 +79,8 @@ impl<S: RowStore> Grower for Worklist<S> {
 
 // Walks the words that wait until none does.
 fn run<S: RowStore>(list: &ConstraintList, work: &mut Worklist<S>) -> Result<(), StoreFault>
-    requires ready { Ready (system_of list.now) work.old.taken (pairs work.old.store) (waits work.old.waiting) }
-    ensures { Grown (λ w. pairs w.store) (λ w. room w.store) Any (Solves (first work.old.taken (system_of list.now))) work.old work.new (Solves (first work.old.taken (system_of list.now)) (pairs work.new.store) × Idle (waits work.new.waiting)) result }
+    requires ready { Ready (system_of list.now) work.old.taken (S.pairs work.old.store) (waits work.old.waiting) }
+    ensures { Grown (λ w. S.pairs w.store) (λ w. S.room w.store) Any (Solves (first work.old.taken (system_of list.now))) work.old work.new (Solves (first work.old.taken (system_of list.now)) (S.pairs work.new.store) × Idle (waits work.new.waiting)) result }
 {
     while let Some(j) = work.waiting.first() {
         work.waiting.remove(j);
@@ -126,8 +126,8 @@ impl<S: RowStore> Propagation for Worklist<S> {
 
 // A solver by a plain worklist, over a store in any state.
 pub fn worklist_over<S: RowStore>(store: S) -> Solver<Worklist<S>>
-    ensures means { solver_meaning (room result.work.store) (system_of result.list) result.settled ≡ solver_meaning (room store) no_words false }
-    ensures keeps { Solved (pairs result.work.store) (system_of result.list) result.settled }
+    ensures means { solver_meaning (S.room result.work.store) (system_of result.list) result.settled ≡ solver_meaning (S.room store) no_words false }
+    ensures keeps { Solved (S.pairs result.work.store) (system_of result.list) result.settled }
 {
     Solver::new(Worklist {
         store,

@@ -2,7 +2,7 @@ use Rattle.std.proofs.Common.{◌≡◌, sym, arith}
 use Rattle.rows.proofs.Counts.{count_none, count_yes, count_no}
 use Rattle.bit_rows.specs.Bits.{bit_pairs}
 use Rattle.bit_rows.proofs.count_set.Goals as goal
-use Rattle.bit_rows.proofs.count_set.Goals.{then-bit-is-set, else-bit-is-set}
+use Rattle.bit_rows.proofs.count_set.Goals.{then-bit_is_set, else-bit_is_set}
 
 pub loop-o-init : goal.loop-o-init
 loop-o-init c = (sym (count_none (bit_pairs c.args.words.now c.args.v)), omega arith)
@@ -10,7 +10,7 @@ loop-o-init c = (sym (count_none (bit_pairs c.args.words.now c.args.v)), omega a
 pub loop-o-preserved : goal.loop-o-preserved
 loop-o-preserved c =
     let row = bit_pairs c.args.words.now c.args.v in
-    elim c.if-bit-is-set.branch [
-      | then-bit-is-set w ↦ omega (arith, count_yes row c.loop-o.o (sym w.if-bit-is-set.ensures))
-      | else-bit-is-set w ↦ omega (arith, count_no row c.loop-o.o (sym w.if-bit-is-set.ensures))
+    elim c.if-bit_is_set.branch [
+      | then-bit_is_set w ↦ omega (arith, count_yes row c.loop-o.o (sym w.if-bit_is_set.ensures))
+      | else-bit_is_set w ↦ omega (arith, count_no row c.loop-o.o (sym w.if-bit_is_set.ensures))
     ]

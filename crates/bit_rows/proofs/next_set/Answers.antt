@@ -4,17 +4,17 @@ use Rattle.std.proofs.lemmas.Bool.Decides.{nat_tests}
 use Rattle.bit_rows.specs.Bits.{bit_pairs}
 use Rattle.bit_rows.proofs.next_set.Goals as goal
 
-pub returns-then-bit-is-set : goal.returns-then-bit-is-set
-returns-then-bit-is-set c = record {
+pub returns-then-bit_is_set : goal.returns-then-bit_is_set
+returns-then-bit_is_set c = record {
   from = omega arith;
   object = omega arith;
-  held = sym c.if-bit-is-set.ensures;
+  held = sym c.if-bit_is_set.ensures;
   before = c.loop-o.invariant;
 }
 
 pub loop-o-preserved : goal.loop-o-preserved
 loop-o-preserved c k from below = ⊎_elim
-    (λ e. rw e (sym c.if-bit-is-set.ensures))
+    (λ e. rw e (sym c.if-bit_is_set.ensures))
     (λ ne. c.loop-o.invariant k from (omega arith))
     (cases_eq k c.loop-o.o)
 

@@ -9,8 +9,8 @@ use Rattle.chains.proofs.length_of.Goals as goal
 pub loop-at-init : goal.loop-at-init
 loop-at-init c = (0, omega arith, reach_zero c.args.cells.now c.args.head, sym (count_none (in_row c.args.cells.now c.args.head)))
 
-pub overflow-add-n : goal.overflow-add-n
-overflow-add-n c = omega (arith, count_bound c.loop-at.invariant.0 (in_row c.args.cells.now c.args.head))
+pub overflow_add-n : goal.overflow_add-n
+overflow_add-n c = omega (arith, count_bound c.loop-at.invariant.0 (in_row c.args.cells.now c.args.head))
 
 pub loop-at-smaller : goal.loop-at-smaller
 loop-at-smaller c =

@@ -5,19 +5,19 @@ use Rattle.walks.proofs.Scans.{true-T, scan_more}
 use Rattle.walks.proofs.Growth.{grows_then, grown_refused}
 use Rattle.walks.proofs.walk_store.Goals as goal
 
-pub returns-in-err-store-into : goal.returns-in-err-store-into
-returns-in-err-store-into g c =
-    let next = (rw c.in-Some.is at c.in-ok-o.ensures).0 in
-    let exit = err_from_is_err_and c.from-residual-in-err-store-into.result c.from-residual-in-err-store-into.ensures.1 in
+pub returns-in_err-store_into : goal.returns-in_err-store_into
+returns-in_err-store_into g c =
+    let next = (rw c.in-Some.is at c.in_ok-o.ensures).0 in
+    let exit = err_from_is_err_and c.from_residual-in_err-store_into.result c.from_residual-in_err-store_into.ensures.1 in
     grown_refused (g.met.G.Grower.onward (system_of c.args.list.now)) _ _ _ _ _ c.loop-o.invariant.0 (λ R m h. λ lt x g. m _ x (h _ _ (true-T next.held)) lt g)
-    _ _ _ _ c.in-err-store-into.ensures (rw (exit.1, exit.2))
+    _ _ _ _ c.in_err-store_into.ensures (rw (exit.1, exit.2))
 
 pub loop-o-preserved : goal.loop-o-preserved
 loop-o-preserved g c =
-    let next = (rw c.in-Some.is at c.in-ok-o.ensures).0 in
+    let next = (rw c.in-Some.is at c.in_ok-o.ensures).0 in
     let found = c.loop-o.invariant.0.more in
-    let more = c.store-into.ensures.grows.more in (
-      grows_then (g.met.G.Grower.onward (system_of c.args.list.now)) _ _ _ _ _ c.loop-o.invariant.0 (λ R m h. λ lt x g. m _ x (h _ _ (true-T next.held)) lt g) c.store-into.ensures.grows,
-      scan_more _ _ _ _ found _ (λ x l p h y m. more _ _ (c.loop-o.invariant.1 x l p h y m)) c.in-Some.o next (λ h y m. c.in-ok-store-into.ensures.ends h y (found _ _ m)),
+    let more = c.store_into.ensures.grows.more in (
+      grows_then (g.met.G.Grower.onward (system_of c.args.list.now)) _ _ _ _ _ c.loop-o.invariant.0 (λ R m h. λ lt x g. m _ x (h _ _ (true-T next.held)) lt g) c.store_into.ensures.grows,
+      scan_more _ _ _ _ found _ (λ x l p h y m. more _ _ (c.loop-o.invariant.1 x l p h y m)) c.in-Some.o next (λ h y m. c.in_ok-store_into.ensures.ends h y (found _ _ m)),
       omega (arith, next.object),
     )

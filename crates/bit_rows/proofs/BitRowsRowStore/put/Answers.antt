@@ -19,9 +19,9 @@ returns c =
     let ho : o < 256 = omega arith in
     let enough : 2048 ≤ length ws = omega (arith, c.if-len-lt-WORDS.false, c.len.ensures, vec.ok.0) in
     let room : bit_room ws ≡ 65536 = rw (le-leb 2048 (length ws) enough) in
-    let written : (with_items vec c.set-bit.new.words).items ≡ put_bit ws v o =
-    with_items_is vec c.set-bit.new.words (omega (arith, c.set-bit.auto.words, c.deref-mut.ensures.len)) ∙ c.set-bit.ensures
-    ∙ ap (λ l. put_bit l v o) c.deref-mut.ensures.value in
+    let written : (with_items vec c.set_bit.new.words).items ≡ put_bit ws v o =
+    with_items_is vec c.set_bit.new.words (omega (arith, c.set_bit.auto.words, c.deref_mut.ensures.len)) ∙ c.set_bit.ensures
+    ∙ ap (λ l. put_bit l v o) c.deref_mut.ensures.value in
     record {
       does = (
         new,

@@ -13,8 +13,8 @@ returns-then-len-ge-WORDS c =
     let enough : 2048 ≤ length ws = omega (arith, c.if-len-ge-WORDS.true, c.len.ensures, vec.ok.0) in
     let same = cleared_length 2048 ws enough in
     let written : (with_items vec c.clear.new.words).items ≡ cleared 2048 ws =
-    with_items_is vec c.clear.new.words (omega (arith, c.clear.auto.words, c.deref-mut.ensures.len)) ∙ c.clear.ensures
-    ∙ ap (cleared 2048) c.deref-mut.ensures.value in
+    with_items_is vec c.clear.new.words (omega (arith, c.clear.auto.words, c.deref_mut.ensures.len)) ∙ c.clear.ensures
+    ∙ ap (cleared 2048) c.deref_mut.ensures.value in
     record {
       empties = ap bit_pairs written ∙ no_bits ws;
       within = bit_within _;

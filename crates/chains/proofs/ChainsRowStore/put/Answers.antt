@@ -27,10 +27,10 @@ returns-then-has c =
       rest = refl;
     }
 
-pub returns-then-is-full : goal.returns-then-is-full
-returns-then-is-full c =
+pub returns-then-is_full : goal.returns-then-is_full
+returns-then-is_full c =
     let s = c.args.self.now.links in
-    let full = leb-true (links_room s) s.used (sym c.if-is-full.ensures) in
+    let full = leb-true (links_room s) s.used (sym c.if-is_full.ensures) in
     let sound = is_sound c.args.self.now.sound in
     record {
       does = (sym c.if-has.ensures, omega (arith, sound.counted, sound.few), refl, refl, refl, (omega arith, omega arith));
@@ -47,16 +47,16 @@ add-requires c =
       row = omega arith;
       object = omega arith;
       new = sym c.if-has.ensures;
-      free = leb-false (links_room s) s.used (sym c.if-is-full.ensures);
+      free = leb-false (links_room s) s.used (sym c.if-is_full.ensures);
     }
 
-pub invariant-of-self : goal.invariant-of-self
-invariant-of-self c = (∣ c.add.ensures.sound ∣₁, tt)
+pub invariant_of-self : goal.invariant_of-self
+invariant_of-self c = record { sound = ∣ c.add.ensures.sound ∣₁ }
 
 pub returns : goal.returns
 returns c =
     let s = c.args.self.now.links in
-    let free = leb-false (links_room s) s.used (sym c.if-is-full.ensures) in
+    let free = leb-false (links_room s) s.used (sym c.if-is_full.ensures) in
     let held = (is_sound c.args.self.now.sound).counted in
     record {
       does = (sym c.if-has.ensures, c.add.ensures.pairs, (omega arith, omega arith), omega arith);

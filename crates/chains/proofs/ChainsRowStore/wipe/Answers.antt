@@ -1,8 +1,8 @@
 use Rattle.chains.proofs.Chained.{chain_within}
 use Rattle.chains.proofs.ChainsRowStore.wipe.Goals as goal
 
-pub invariant-of-self : goal.invariant-of-self
-invariant-of-self c = (∣ c.wipe.ensures.sound ∣₁, tt)
+pub invariant_of-self : goal.invariant_of-self
+invariant_of-self c = record { sound = ∣ c.wipe.ensures.sound ∣₁ }
 
 pub returns : goal.returns
 returns c = record {

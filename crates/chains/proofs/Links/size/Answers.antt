@@ -4,8 +4,8 @@ use Rattle.chains.specs.Cells.{head_of, in_row, Rising}
 use Rattle.chains.proofs.Chained.{in_cells, count_row}
 use Rattle.chains.proofs.Links.size.Goals as goal
 
-pub length-of-requires : goal.length-of-requires
-length-of-requires c =
+pub length_of-requires : goal.length_of-requires
+length_of-requires c =
     let s = c.args.self.now in
     subst (λ cs. Rising cs (length cs) (head_of s.heads c.args.v)) (sym c.deref.ensures.value)
     (in_cells s.cells.items s.heads s.used c.args.v c.requires.sound c.requires.row)

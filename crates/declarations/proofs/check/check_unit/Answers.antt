@@ -12,13 +12,13 @@ returns-in-Some c =
     record {
       verdict =
           ap (λ (l : Location). Err (Declaration l)) c.locate.ensures
-          ∙ verdict_admitted c.args.text.now (Some c.in-Some.offset) c.in-default.ensures c.in-Some.ensures;
+          ∙ verdict_admitted c.args.text.now (Some c.in-Some.offset) c.in_default.ensures c.in-Some.ensures;
       known = known_verdicts;
     }
 
 pub returns-in-None : goal.returns-in-None
 returns-in-None c =
     record {
-      verdict = verdict_admitted c.args.text.now None c.in-default.ensures c.in-None.ensures;
+      verdict = verdict_admitted c.args.text.now None c.in_default.ensures c.in-None.ensures;
       known = known_verdicts;
     }

@@ -5,8 +5,8 @@ use Rattle.declarations.proofs.check.note_all.Goals as goal
 pub loop-found-init : goal.loop-found-init
 loop-found-init c = noting_none c.args.text.now c.requires.admitted c.args.mentions.now
 
-pub note-item-count-requires : goal.note-item-count-requires
-note-item-count-requires c =
+pub note_item-count-requires : goal.note_item-count-requires
+note_item-count-requires c =
     omega (arith, c.requires.room, noting_few c.args.text.now c.requires.admitted c.loop-found.mentions c.loop-found.count c.loop-found.at c.loop-found.invariant)
 
 pub loop-found-preserved : goal.loop-found-preserved
@@ -14,7 +14,7 @@ loop-found-preserved c =
     let text = c.args.text.now in
     let few = noting_few text c.requires.admitted c.loop-found.mentions c.loop-found.count c.loop-found.at c.loop-found.invariant in
     noting_more text c.requires.admitted c.loop-found.mentions c.loop-found.count c.loop-found.at c.loop-found.invariant _ c.in-Some.found _ _
-    c.item-from.ensures c.in-Some.is (omega (arith, c.requires.room, few, c.note-item-count.ensures.few)) (c.note-item-count.ensures.all text)
+    c.item_from.ensures c.in-Some.is (omega (arith, c.requires.room, few, c.note_item-count.ensures.few)) (c.note_item-count.ensures.all text)
 
 pub loop-found-smaller : goal.loop-found-smaller
 loop-found-smaller c =
@@ -25,5 +25,5 @@ returns c =
     let text = c.args.text.now in
     record {
       few = noting_few text c.requires.admitted c.loop-found.mentions c.loop-found.count c.loop-found.at c.loop-found.invariant;
-      all = noting_all text c.requires.admitted c.loop-found.mentions c.loop-found.count c.loop-found.at c.loop-found.invariant _ c.item-from.ensures c.in-default.is;
+      all = noting_all text c.requires.admitted c.loop-found.mentions c.loop-found.count c.loop-found.at c.loop-found.invariant _ c.item_from.ensures c.in_default.is;
     }

@@ -19,12 +19,12 @@ returns-in-Some-declared c =
 pub returns : goal.returns
 returns c =
     let text = c.args.text.now in
-    record { next = none_left text c.args.at c.loop-found.from c.loop-found.invariant.1 c.in-default.ensures; all = all_declarations text; onward = tt }
+    record { next = none_left text c.args.at c.loop-found.from c.loop-found.invariant.1 c.in_default.ensures; all = all_declarations text; onward = tt }
 
 pub loop-found-preserved : goal.loop-found-preserved
 loop-found-preserved c =
     let text = c.args.text.now in
     let (read, on, within) = c.in-Some.ensures in (
       omega (arith, c.loop-found.invariant.0, on),
-      c.loop-found.invariant.1 ∙ item_passed text c.loop-found.from c.in-Some.found [] read (c.in-default-declared.ensures.is text) refl,
+      c.loop-found.invariant.1 ∙ item_passed text c.loop-found.from c.in-Some.found [] read (c.in_default-declared.ensures.is text) refl,
     )

@@ -7,9 +7,9 @@ use Rattle.declarations.proofs.mention.note_call.Goals as goal
 pub returns : goal.returns
 returns c =
     record {
-      few = omega (arith, c.note-n.ensures.next, c.note-arguments.ensures.few);
+      few = omega (arith, c.note-n.ensures.next, c.note_arguments.ensures.few);
       all = λ text.
           mentions_after _ _ _ _ _
           (c.note-n.ensures.all text ∙ ap (λ (m : Mention). noted text c.args.from c.args.mentions.now ++ m ∷ []) (c.callee_mention.ensures text))
-          (c.note-arguments.ensures.all text);
+          (c.note_arguments.ensures.all text);
     }

@@ -8,15 +8,15 @@ use Rattle.engine.proofs.hand.hand_blocks.Goals as goal
 pub loop-i-init : goal.loop-i-init
 loop-i-init g c = (c.requires.safe, c.requires.fresh)
 
-pub returns-in-err-block : goal.returns-in-err-block
-returns-in-err-block g c =
+pub returns-in_err-block : goal.returns-in_err-block
+returns-in_err-block g c =
     let m = g.E.Engine.meaning c.args.below.now in
     let bs = c.args.blocks.now in
     let i = c.loop-i.i in
     let ok = block_taken m bs i c.loop-i-test.true c.requires.sized c.requires.few in
-    absurd (ok_or_err c.block.result (variables (take i bs)) c.in-err-block.field-0.0
+    absurd (ok_or_err c.block.result (variables (take i bs)) c.in_err-block.field-0.0
     (c.block.ensures.replies c.loop-i.invariant.0 ∙ ap (λ x. block_answer x (get_or bs i 0)) c.loop-i.invariant.1 ∙ ok)
-    c.in-err-block.was)
+    c.in_err-block.was)
 
 pub loop-i-preserved : goal.loop-i-preserved
 loop-i-preserved g c =

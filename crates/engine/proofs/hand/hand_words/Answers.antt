@@ -7,15 +7,15 @@ use Rattle.engine.proofs.hand.hand_words.Goals as goal
 pub loop-i-init : goal.loop-i-init
 loop-i-init g c = (c.requires.safe, c.requires.fresh)
 
-pub returns-in-err-add : goal.returns-in-err-add
-returns-in-err-add g c =
+pub returns-in_err-add : goal.returns-in_err-add
+returns-in_err-add g c =
     let m = g.E.Engine.meaning c.args.below.now in
     let ws = c.args.words.now in
     let i = c.loop-i.i in
     let ok = word_taken m c.args.blocks.now ws i c.loop-i-test.true c.requires.valid in
-    absurd (ok_or_err c.add.result tt c.in-err-add.field-0.0
+    absurd (ok_or_err c.add.result tt c.in_err-add.field-0.0
     (c.add.ensures.replies c.loop-i.invariant.0 ∙ ap (λ x. add_answer x (get_or ws i 0)) c.loop-i.invariant.1 ∙ ok)
-    c.in-err-add.was)
+    c.in_err-add.was)
 
 pub loop-i-preserved : goal.loop-i-preserved
 loop-i-preserved g c =

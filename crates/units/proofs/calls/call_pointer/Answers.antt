@@ -14,7 +14,7 @@ returns-in-Err c = sym (ap (λ (ss : List Statement). slice_get (flat_map pointe
 
 pub loop-found-init : goal.loop-found-init
 loop-found-init c =
-    let read = read_whole c.args.text.now c.in-default.ensures in
+    let read = read_whole c.args.text.now c.in_default.ensures in
     (omega arith, omega arith, read.few, left_all c.args.text.now (Found pointers_at (statements_in c.args.text.now) c.args.i 0) read (c.args.i, omega arith, refl))
 
 pub returns-then-passed-i : goal.returns-then-passed-i
@@ -22,11 +22,11 @@ unfolding pointers_in
 returns-then-passed-i c =
     let text = c.args.text.now in
     let all = statements_in text in
-    let here = place_in text c.in-Some-pointer-of.place in
-    (left_more c.loop-found.invariant.3 (λ ss. Some here ≡ slice_get (flat_map pointers_at all) c.args.i) _ c.in-Some.found c.item-from.ensures c.in-Some.is
-    (λ ss h. found_here pointers_at all c.args.i c.loop-found.passed here (statement_in text c.in-Some.found) ss (c.in-Some-pointer-of.ensures text) c.if-passed-i.true h)
+    let here = place_in text c.in-Some-pointer_of.place in
+    (left_more c.loop-found.invariant.3 (λ ss. Some here ≡ slice_get (flat_map pointers_at all) c.args.i) _ c.in-Some.found c.item_from.ensures c.in-Some.is
+    (λ ss h. found_here pointers_at all c.args.i c.loop-found.passed here (statement_in text c.in-Some.found) ss (c.in-Some-pointer_of.ensures text) c.if-passed-i.true h)
     ).0.holds
 
 pub returns : goal.returns
 unfolding pointers_in
-returns c = found_nowhere pointers_at (statements_in c.args.text.now) c.args.i c.loop-found.passed (left_none c.loop-found.invariant.3 _ c.item-from.ensures c.in-default-item-from.is)
+returns c = found_nowhere pointers_at (statements_in c.args.text.now) c.args.i c.loop-found.passed (left_none c.loop-found.invariant.3 _ c.item_from.ensures c.in_default-item_from.is)

@@ -13,9 +13,9 @@ returns-in-Err c = sym (ap (λ (ss : List Statement). length (flat_map pointers_
 
 pub loop-found-init : goal.loop-found-init
 loop-found-init c =
-    let read = read_whole c.args.text.now c.in-default.ensures in
+    let read = read_whole c.args.text.now c.in_default.ensures in
     (omega arith, omega arith, read.few, left_all c.args.text.now (Counted pointers_at (statements_in c.args.text.now) 0) read (omega arith))
 
 pub returns : goal.returns
 unfolding pointers_in
-returns c = omega (arith, left_none c.loop-found.invariant.3 _ c.item-from.ensures c.in-default-item-from.is)
+returns c = omega (arith, left_none c.loop-found.invariant.3 _ c.item_from.ensures c.in_default-item_from.is)

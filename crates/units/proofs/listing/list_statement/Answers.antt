@@ -7,7 +7,7 @@ use Rattle.units.specs.Statements.{words_of}
 use Rattle.units.specs.Listing.{tagged, overlaid}
 use Rattle.units.proofs.Overlay.{lay_none, lay_more, lay_all, nth_none}
 use Rattle.units.proofs.listing.list_statement.Goals as goal
-use Rattle.units.proofs.listing.list_statement.Goals.{in-Some, in-default}
+use Rattle.units.proofs.listing.list_statement.Goals.{in-Some, in_default}
 
 pub loop-i-init : goal.loop-i-init
 loop-i-init g c =
@@ -21,14 +21,14 @@ loop-i-preserved g c =
     let vs = map (word (g.N.FirstVariables.first c.args.names.now)) ns in
     let start = c.args.from + c.args.k in
     let i = c.loop-i.i in
-    elim c.match-word-at.branch [
+    elim c.match-word_at.branch [
       | in-Some w ↦
           ap (λ (xs : List ListedWord). overlaid xs (start + (i + 1)) (map h (drop (i + 1) vs))) (w.out-is ∙ w.put.ensures)
-          ∙ sym (lay_more h vs start c.loop-i.out i (c.args.from + (c.args.k + i)) w.in-Some.word (sym c.word-at.ensures ∙ w.in-Some.is) (omega arith))
+          ∙ sym (lay_more h vs start c.loop-i.out i (c.args.from + (c.args.k + i)) w.in-Some.word (sym c.word_at.ensures ∙ w.in-Some.is) (omega arith))
           ∙ c.loop-i.invariant
-      | in-default w ↦
-          let past = nth_none vs i (sym c.word-at.ensures ∙ w.in-default.is) in
-          absurd (omega (arith, length-map ns (word (g.N.FirstVariables.first c.args.names.now)), c.word-count-count.ensures.all c.args.text.now))
+      | in_default w ↦
+          let past = nth_none vs i (sym c.word_at.ensures ∙ w.in_default.is) in
+          absurd (omega (arith, length-map ns (word (g.N.FirstVariables.first c.args.names.now)), c.word_count-count.ensures.all c.args.text.now))
     ]
 
 pub returns : goal.returns
@@ -36,9 +36,9 @@ returns g c =
     let h = tagged c.args.unit c.args.found.at in
     let f = word (g.N.FirstVariables.first c.args.names.now) in
     let ns = words_of (item_in c.args.text.now c.args.found.item) in
-    let all = c.word-count-count.ensures.all c.args.text.now in
+    let all = c.word_count-count.ensures.all c.args.text.now in
     record {
       written = sym (lay_all h (map f ns) (c.args.from + c.args.k) c.loop-i.out c.loop-i.i (omega (arith, length-map ns f, all))) ∙ c.loop-i.invariant;
       count = ap (λ (n : ℕ). c.args.k + n) (all ∙ sym (length-map ns f) ∙ sym (length-map (map f ns) h));
-      few = omega (arith, c.word-count-count.ensures.few);
+      few = omega (arith, c.word_count-count.ensures.few);
     }

@@ -19,7 +19,7 @@ returns-in-Err g c =
 
 pub loop-found-init : goal.loop-found-init
 loop-found-init g c =
-    let read = read_whole c.args.text.now c.in-default.ensures in
+    let read = read_whole c.args.text.now c.in_default.ensures in
     let f = listed (g.N.FirstVariables.first c.args.names.now) c.args.unit in
     let all = statements_in c.args.text.now in
     (omega arith, omega arith, read.few, left_all c.args.text.now _ read (writing_none f all c.args.out.now c.args.from))
@@ -28,9 +28,9 @@ pub loop-found-preserved : goal.loop-found-preserved
 loop-found-preserved g c =
     let f = listed (g.N.FirstVariables.first c.args.names.now) c.args.unit in
     let all = statements_in c.args.text.now in
-    let put = c.list-statement-k.ensures in
-    let next = left_more c.loop-found.invariant.3 (Writing f all c.args.out.now c.args.from c.list-statement-k.result c.list-statement-k.new.out) _ c.in-Some.found c.item-from.ensures c.in-Some.is
-    (λ ss h. writing_more f all c.args.out.now c.args.from c.loop-found.k c.list-statement-k.result c.loop-found.out c.list-statement-k.new.out _ ss put.written put.count h) in
+    let put = c.list_statement-k.ensures in
+    let next = left_more c.loop-found.invariant.3 (Writing f all c.args.out.now c.args.from c.list_statement-k.result c.list_statement-k.new.out) _ c.in-Some.found c.item_from.ensures c.in-Some.is
+    (λ ss h. writing_more f all c.args.out.now c.args.from c.loop-found.k c.list_statement-k.result c.loop-found.out c.list_statement-k.new.out _ ss put.written put.count h) in
     let on : c.loop-found.at < c.in-Some.found.end = next.1 in
     let within : c.in-Some.found.end ≤ length c.args.text.now = next.2 in
     let few = put.few in
@@ -41,5 +41,5 @@ unfolding listing
 returns g c =
     let f = listed (g.N.FirstVariables.first c.args.names.now) c.args.unit in
     let all = statements_in c.args.text.now in
-    let (written, count) = writing_all f all c.args.out.now c.args.from c.loop-found.k c.loop-found.out (left_none c.loop-found.invariant.3 _ c.item-from.ensures c.in-default-item-from.is) in
+    let (written, count) = writing_all f all c.args.out.now c.args.from c.loop-found.k c.loop-found.out (left_none c.loop-found.invariant.3 _ c.item_from.ensures c.in_default-item_from.is) in
     record { written = written; count = count }

@@ -15,8 +15,8 @@ returns-then-i-count g c =
     let callee = callee_in text c.args.call.callee in
     let places = c.args.call.arguments.places in
     let six : length places ≡ 6 = search rules in
-    let inside : c.args.i < length (arguments_in text c.args.call.arguments) = omega (arith, c.if-i-count.true, c.argument-count-count.ensures.all text) in
-    ap Some c.argument-at.ensures
+    let inside : c.args.i < length (arguments_in text c.args.call.arguments) = omega (arith, c.if-i-count.true, c.argument_count-count.ensures.all text) in
+    ap Some c.argument_at.ensures
     ∙ sym (ap (λ (p : grammar.Place). Some (f (argument_word callee (2 + c.args.i) p))) (given_at (place_in text) places six c.args.call.arguments.count c.args.i _ inside))
     ∙ sym (word_argument f callee (target_in text c.args.target) 2 c.args.i (arguments_in text c.args.call.arguments) _ inside)
 
@@ -28,8 +28,8 @@ returns-then-i-count-2 g c =
     let target = target_in text c.args.target in
     let given = arguments_in text c.args.call.arguments in
     let past = c.args.i - length given in
-    sym (word_result f callee target 2 c.args.i past given (omega (arith, c.if-i-count-2.true, c.argument-count-count.ensures.all text))
-    ∙ one_result f callee target past (omega (arith, c.if-i-count-2.true, c.argument-count-count.ensures.all text)))
+    sym (word_result f callee target 2 c.args.i past given (omega (arith, c.if-i-count-2.true, c.argument_count-count.ensures.all text))
+    ∙ one_result f callee target past (omega (arith, c.if-i-count-2.true, c.argument_count-count.ensures.all text)))
 
 pub returns-in-Some : goal.returns-in-Some
 returns-in-Some g c =
@@ -38,7 +38,7 @@ returns-in-Some g c =
     let callee = callee_in text c.args.call.callee in
     ap Some c.result_of.ensures
     ∙ sym (ap (λ (t : Option Place). slice_get (map f (result_words (target_in text t) callee)) 0) c.in-Some.is)
-    ∙ sym (word_result f callee (target_in text c.args.target) 2 c.args.i 0 (arguments_in text c.args.call.arguments) (omega (arith, c.argument-count-count.ensures.all text)))
+    ∙ sym (word_result f callee (target_in text c.args.target) 2 c.args.i 0 (arguments_in text c.args.call.arguments) (omega (arith, c.argument_count-count.ensures.all text)))
 
 pub returns-in-None : goal.returns-in-None
 returns-in-None g c =
@@ -46,4 +46,4 @@ returns-in-None g c =
     let f = word (g.N.FirstVariables.first c.args.names.now) in
     let callee = callee_in text c.args.call.callee in
     sym (ap (λ (t : Option Place). slice_get (map f (result_words (target_in text t) callee)) 0) c.in-None.is)
-    ∙ sym (word_result f callee (target_in text c.args.target) 2 c.args.i 0 (arguments_in text c.args.call.arguments) (omega (arith, c.argument-count-count.ensures.all text)))
+    ∙ sym (word_result f callee (target_in text c.args.target) 2 c.args.i 0 (arguments_in text c.args.call.arguments) (omega (arith, c.argument_count-count.ensures.all text)))

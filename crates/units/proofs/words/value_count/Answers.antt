@@ -10,7 +10,7 @@ returns-in-Returned c =
     let call = c.in-Returned.call in
     record {
       all = λ text p.
-          ap (λ (n : ℕ). n + 1) (c.argument-count.ensures.all text) ∙ sym (call_length (callee_in text call.callee) (Some p) (arguments_in text call.arguments))
+          ap (λ (n : ℕ). n + 1) (c.argument_count.ensures.all text) ∙ sym (call_length (callee_in text call.callee) (Some p) (arguments_in text call.arguments))
           ∙ sym (ap (λ (v : Value). length (value_words p (value_in text v))) c.in-Returned.is);
-      few = omega (arith, c.argument-count.ensures.few);
+      few = omega (arith, c.argument_count.ensures.few);
     }

@@ -10,8 +10,8 @@ returns-in-Invoke c =
     let call = c.in-Invoke.call in
     record {
       all = λ text.
-          c.argument-count.ensures.all text
+          c.argument_count.ensures.all text
           ∙ sym (call_length (callee_in text call.callee) None (arguments_in text call.arguments) ∙ add-zero _)
           ∙ sym (ap (λ (i : Item). length (words_of (item_in text i))) c.in-Invoke.is);
-      few = omega (arith, c.argument-count.ensures.few);
+      few = omega (arith, c.argument_count.ensures.few);
     }

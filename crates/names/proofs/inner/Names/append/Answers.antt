@@ -19,10 +19,10 @@ returns c =
     let t = c.args.self.now in
     let s = c.requires.sound in
     let r = c.args.last in
-    let bucket = ap (λ h. h % 256) (c.hash-bytes.ensures ∙ ap hash_of c.name.ensures) in
+    let bucket = ap (λ h. h % 256) (c.hash_bytes.ensures ∙ ap hash_of c.name.ensures) in
     record {
       sound = subst (λ b. Sound (with_last t s r c.requires.unknown c.requires.room b)) (sym bucket) (sound_push t s r c.requires.unknown c.requires.room);
-      appended = in_use_push t s r c.requires.unknown c.requires.room (c.hash-bytes.result % 256);
+      appended = in_use_push t s r c.requires.unknown c.requires.room (c.hash_bytes.result % 256);
       used = refl;
       rest = λ j d h. get_or-set_other t.records t.used j r d (omega arith);
     }

@@ -18,9 +18,9 @@ returns-in-Some c =
           (then_note (λ k. Some (lowered k c.args.defines))) (ap Some lowered_now.noted);
     }
 
-pub returns-in-default : goal.returns-in-default
-returns-in-default c =
+pub returns-in_default : goal.returns-in_default
+returns-in_default c =
     record {
       sound = c.requires.sound;
-      after = updated_none (in_use c.args.self.now) c.args.name.now c.in-default.ensures (then_note (λ k. Some (lowered k c.args.defines))) refl;
+      after = updated_none (in_use c.args.self.now) c.args.name.now c.in_default.ensures (then_note (λ k. Some (lowered k c.args.defines))) refl;
     }

@@ -18,9 +18,9 @@ returns-in-Some c =
           (then_note (λ k. Some (placed c.args.first k))) (ap Some placed_now.noted);
     }
 
-pub returns-in-default : goal.returns-in-default
-returns-in-default c =
+pub returns-in_default : goal.returns-in_default
+returns-in_default c =
     record {
       sound = c.requires.sound;
-      after = updated_none (in_use c.args.self.now) c.args.name.now c.in-default.ensures (then_note (λ k. Some (placed c.args.first k))) refl;
+      after = updated_none (in_use c.args.self.now) c.args.name.now c.in_default.ensures (then_note (λ k. Some (placed c.args.first k))) refl;
     }

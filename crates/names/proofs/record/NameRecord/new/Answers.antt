@@ -4,6 +4,6 @@ use Rattle.names.proofs.record.NameRecord.new.Goals as goal
 
 pub returns : goal.returns
 returns c = record {
-  named = take_at _ _ _ (ap length c.copy-from-slice.ensures.after) ∙ c.copy-from-slice.ensures.after;
+  named = take_at _ _ _ (ap length c.copy_from_slice.ensures.after) ∙ c.copy_from_slice.ensures.after;
   noted = refl;
 }

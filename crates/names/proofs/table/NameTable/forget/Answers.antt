@@ -8,8 +8,8 @@ use Rattle.names.proofs.table.NameTable.forget.Goals as goal
 pub forget-requires : goal.forget-requires
 forget-requires c = record { sound = is_sound c.args.self.now.sound }
 
-pub invariant-of-self : goal.invariant-of-self
-invariant-of-self c = (∣ c.forget.ensures.sound ∣₁, tt)
+pub invariant_of-self : goal.invariant_of-self
+invariant_of-self c = record { sound = ∣ c.forget.ensures.sound ∣₁ }
 
 pub returns : goal.returns
 returns c = record {

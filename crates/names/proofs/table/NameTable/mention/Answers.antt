@@ -6,8 +6,8 @@ use Rattle.names.proofs.table.NameTable.mention.Goals as goal
 pub mention-requires : goal.mention-requires
 mention-requires c = record { sound = is_sound c.args.self.now.sound }
 
-pub invariant-of-self : goal.invariant-of-self
-invariant-of-self c = (∣ c.mention.ensures.sound ∣₁, tt)
+pub invariant_of-self : goal.invariant_of-self
+invariant_of-self c = record { sound = ∣ c.mention.ensures.sound ∣₁ }
 
 pub returns : goal.returns
 returns c = record {

@@ -8,8 +8,8 @@ use Rattle.names.proofs.table.NameTable.place.Goals as goal
 pub place-requires : goal.place-requires
 place-requires c = record { sound = is_sound c.args.self.now.sound }
 
-pub invariant-of-self : goal.invariant-of-self
-invariant-of-self c = (∣ c.place.ensures.sound ∣₁, tt)
+pub invariant_of-self : goal.invariant_of-self
+invariant_of-self c = record { sound = ∣ c.place.ensures.sound ∣₁ }
 
 pub returns : goal.returns
 returns c = record {

@@ -2,11 +2,11 @@ use Rattle.names.specs.Notes.{width}
 use Rattle.names.proofs.Sounds.{is_sound}
 use Rattle.names.proofs.table.NameTable.unplace_all.Goals as goal
 
-pub unplace-all-requires : goal.unplace-all-requires
-unplace-all-requires c = is_sound c.args.self.now.sound
+pub unplace_all-requires : goal.unplace_all-requires
+unplace_all-requires c = is_sound c.args.self.now.sound
 
-pub invariant-of-self : goal.invariant-of-self
-invariant-of-self c = (∣ c.unplace-all.ensures.sound ∣₁, tt)
+pub invariant_of-self : goal.invariant_of-self
+invariant_of-self c = record { sound = ∣ c.unplace_all.ensures.sound ∣₁ }
 
 pub returns : goal.returns
-returns c = record { after = c.unplace-all.ensures.after.noted; variables = c.unplace-all.ensures.after.totals width }
+returns c = record { after = c.unplace_all.ensures.after.noted; variables = c.unplace_all.ensures.after.totals width }
