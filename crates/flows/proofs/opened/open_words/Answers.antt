@@ -14,7 +14,7 @@ pub loop-i-preserved : goal.loop-i-preserved
 loop-i-preserved c v =
     let f : ℕ → Bool = λ j. opens (system_of c.args.list.now).blocks (get_or c.words-words.result.now j 0) v in
     let i = c.loop-i.i in
-    c.open-word.ensures v ∙ ap (λ b. b || f i) (c.loop-i.invariant v) ∙ sym (any_more i f)
+    c.open_word.ensures v ∙ ap (λ b. b || f i) (c.loop-i.invariant v) ∙ sym (any_more i f)
 
 pub returns : goal.returns
 returns c v =
@@ -25,8 +25,8 @@ returns c v =
     ∙ ap (λ ws. any (length ws) (λ j. opens sys.blocks (get_or ws j 0) v)) c.words-words.ensures.value
     ∙ opened_is sys v
 
-pub open-word-requires : goal.open-word-requires
-open-word-requires c =
+pub open_word-requires : goal.open_word-requires
+open_word-requires c =
     let sys = system_of c.args.list.now in
     let same = c.words-words.ensures.value in
     let i = c.loop-i.i in

@@ -7,8 +7,8 @@ use Rattle.flows.specs.Columns.{source_at}
 use Rattle.flows.proofs.Opening.{any_more, any_zero, or_none, or_assoc}
 use Rattle.flows.proofs.stand.put_all.Goals as goal
 
-pub put-word-requires : goal.put-word-requires
-put-word-requires c =
+pub put_word-requires : goal.put_word-requires
+put_word-requires c =
     let sys = system_of c.args.list.now in
     let same = c.words-words.ensures.value in
     let valid = c.words-words.ensures.valid in
@@ -25,14 +25,14 @@ pub loop-i-init : goal.loop-i-init
 loop-i-init c u k hu hk =
     let f : ℕ → Bool = λ j. brings (source_at k) u (decode (get_or c.words-words.result.now j 0)) in
     let base = get_or c.args.flags.now u false && same_source (row u) (source_at k) in
-    c.put-open.ensures u k hu hk ∙ or_none base ∙ ap (λ b. base || b) (any_zero f)
+    c.put_open.ensures u k hu hk ∙ or_none base ∙ ap (λ b. base || b) (any_zero f)
 
 pub loop-i-preserved : goal.loop-i-preserved
 loop-i-preserved c u k hu hk =
     let f : ℕ → Bool = λ j. brings (source_at k) u (decode (get_or c.words-words.result.now j 0)) in
     let i = c.loop-i.i in
     let base = get_or c.args.flags.now u false && same_source (row u) (source_at k) in
-    c.put-word.ensures u k hu hk ∙ ap (λ b. b || f i) (c.loop-i.invariant u k hu hk) ∙ or_assoc base (any i f) (f i)
+    c.put_word.ensures u k hu hk ∙ ap (λ b. b || f i) (c.loop-i.invariant u k hu hk) ∙ or_assoc base (any i f) (f i)
     ∙ ap (λ b. base || b) (sym (any_more i f))
 
 pub returns : goal.returns

@@ -10,8 +10,8 @@ loop-v-init c u k hu hk =
 
 pub loop-v-preserved : goal.loop-v-preserved
 loop-v-preserved c u k hu hk =
-    rows_more c.args.flags.now c.loop-v.v u k (bit_at 80 c.loop-v.stand u k) (bit_at 80 c.put-row.new.stand u k)
-    (c.loop-v.invariant u k hu hk) (c.put-row.ensures u k hu hk)
+    rows_more c.args.flags.now c.loop-v.v u k (bit_at 80 c.loop-v.stand u k) (bit_at 80 c.put_row.new.stand u k)
+    (c.loop-v.invariant u k hu hk) (c.put_row.ensures u k hu hk)
 
 pub returns : goal.returns
 returns c u k hu hk = c.loop-v.invariant u k hu hk ∙ rows_all c.args.flags.now u k c.loop-v.v (omega (arith, c.loop-v-test.false))

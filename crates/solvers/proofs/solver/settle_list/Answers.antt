@@ -9,8 +9,8 @@ pub loop-i-init : goal.loop-i-init
 loop-i-init g c =
     (c.restart.ensures.empties ∙ none_least (system_of c.args.list.now), none_fits _ _ c.restart.ensures.empties, c.restart.ensures.rests, refl)
 
-pub take-in-requires : goal.take-in-requires
-take-in-requires g c =
+pub take_in-requires : goal.take_in-requires
+take_in-requires g c =
     record { place = rw (← c.words-i-end.ensures.value) c.loop-i-test.true; rests = c.loop-i.invariant.2; so_far = c.loop-i.invariant.0; fits = rw (← c.loop-i.invariant.3) at c.loop-i.invariant.1 }
 
 pub returns-in-Err : goal.returns-in-Err
@@ -22,7 +22,7 @@ returns-in-Err g c =
     let same = inv.3 ∙ c.restart.ensures.fixed in
     let told = c.in-Err.ensures in
     record {
-      settles = rw same at (overfull _ sys _ (p.rows c.take-in.new.self) (p.idle c.take-in.new.self) c.loop-i.i c.in-Err.store i_in inv.0 (rw (← inv.3) at inv.1) told.takes);
+      settles = rw same at (overfull _ sys _ (p.rows c.take_in.new.self) (p.idle c.take_in.new.self) c.loop-i.i c.in-Err.store i_in inv.0 (rw (← inv.3) at inv.1) told.takes);
       fixed = told.fixed ∙ same;
     }
 

@@ -16,7 +16,7 @@ pub loop-i-preserved : goal.loop-i-preserved
 loop-i-preserved c u v hu hv =
     let f : ℕ → Bool = λ j. copies u v (decode (get_or c.words-words.result.now j 0)) in
     let i = c.loop-i.i in
-    c.draw-word.ensures u v hu hv ∙ ap (λ b. b || f i) (c.loop-i.invariant u v hu hv) ∙ sym (any_more i f)
+    c.draw_word.ensures u v hu hv ∙ ap (λ b. b || f i) (c.loop-i.invariant u v hu hv) ∙ sym (any_more i f)
 
 pub returns : goal.returns
 unfolding copy_edge
@@ -26,8 +26,8 @@ returns c u v hu hv =
     c.loop-i.invariant u v hu hv ∙ ap (λ n. any n (λ j. copies u v (decode (get_or words j 0)))) end
     ∙ ap (λ ws. any (length ws) (λ j. copies u v (decode (get_or ws j 0)))) c.words-words.ensures.value
 
-pub draw-word-requires : goal.draw-word-requires
-draw-word-requires c =
+pub draw_word-requires : goal.draw_word-requires
+draw_word-requires c =
     let sys = system_of c.args.self.now.list.now in
     let same = c.words-words.ensures.value in
     let valid = c.words-words.ensures.valid in
