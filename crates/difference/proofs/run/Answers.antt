@@ -11,7 +11,7 @@ loop-v-smaller g c =
     let heads = c.in-Some.ensures in
     let adv : Advanced c.loop-v.work.pending c.advance.new.self =
     record { items = c.advance.ensures.items; head = c.advance.ensures.head; tail = c.advance.ensures.tail } in
-    let noted = c.hand-on.ensures.grows.noted (omega (arith, adv.tail, c.loop-v.invariant.0.counted)) in
+    let noted = c.hand_on.ensures.grows.noted (omega (arith, adv.tail, c.loop-v.invariant.0.counted)) in
     effort_falls (system_of c.args.list.now) _ _ _ _ _ _ _ _ _ heads adv noted
 
 pub loop-v-preserved : goal.loop-v-preserved
@@ -21,22 +21,22 @@ loop-v-preserved g c =
     let heads = c.in-Some.ensures in
     let adv : Advanced c.loop-v.work.pending c.advance.new.self =
     record { items = c.advance.ensures.items; head = c.advance.ensures.head; tail = c.advance.ensures.tail } in
-    let noted = c.hand-on.ensures.grows.noted (omega (arith, adv.tail, inv.0.counted)) in
-    let done = c.in-ok-hand-on.ensures in (
+    let noted = c.hand_on.ensures.grows.noted (omega (arith, adv.tail, inv.0.counted)) in
+    let done = c.in_ok-hand_on.ensures in (
       ready_again sys _ _ _ _ _ _ _ _ _ heads adv noted inv.0 done.ends,
       grows_then any_onward _ _ _ c.loop-v.work _ inv.1 (λ R m h. rw inv.2 m) (grows_moved _ c.loop-v.work _ _ refl refl done.grows),
       noted.same ∙ inv.2,
     )
 
-pub returns-in-err-hand-on : goal.returns-in-err-hand-on
-returns-in-err-hand-on g c =
+pub returns-in_err-hand_on : goal.returns-in_err-hand_on
+returns-in_err-hand_on g c =
     let inv = c.loop-v.invariant in
-    let exit = err_from_is_err_and c.from-residual.result c.from-residual.ensures.1 in
+    let exit = err_from_is_err_and c.from_residual.result c.from_residual.ensures.1 in
     grown_refused any_onward _ _ _ c.loop-v.work _ inv.1 (λ R m h. rw inv.2 m)
-    _ _ _ _ (grown_moved _ c.loop-v.work _ _ refl refl _ _ c.in-err-hand-on.ensures) (rw (exit.1, exit.2))
+    _ _ _ _ (grown_moved _ c.loop-v.work _ _ refl refl _ _ c.in_err-hand_on.ensures) (rw (exit.1, exit.2))
 
 pub returns : goal.returns
 returns g c =
     let inv = c.loop-v.invariant in
-    let rest = idle_from _ _ c.in-default.ensures inv.0.counted in
+    let rest = idle_from _ _ c.in_default.ensures inv.0.counted in
     record { grows = inv.1; ends = (rw (← inv.2) (idle_solves (system_of c.args.list.now) _ _ _ inv.0 rest.none), rest) }

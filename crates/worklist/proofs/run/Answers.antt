@@ -37,24 +37,24 @@ loop-j-preserved g c =
     let waits_j = c.in-Some.ensures in
     let is = c.decode.ensures.value ∙ ap (λ ws. decode (get_or ws j 0)) c.words.ensures.value in
     let noted = c.walk.ensures.grows.noted in (
-      ready_again sys _ _ j _ _ _ _ _ waits_j.0 waits_j.1 c.remove.ensures noted inv.0 (rw is at c.in-ok-walk.ensures.ends),
+      ready_again sys _ _ j _ _ _ _ _ waits_j.0 waits_j.1 c.remove.ensures noted inv.0 (rw is at c.in_ok-walk.ensures.ends),
       grows_then any_onward _ _ _ c.loop-j.work _ inv.1 (λ R m h. leads sys _ _ j _ _ _ inv.0 inv.2 waits_j.1 is R m)
           (grows_moved _ c.loop-j.work _ _ refl refl c.walk.ensures.grows),
       noted.same ∙ inv.2,
     )
 
-pub returns-in-err-walk : goal.returns-in-err-walk
-returns-in-err-walk g c =
+pub returns-in_err-walk : goal.returns-in_err-walk
+returns-in_err-walk g c =
     let sys = system_of c.args.list.now in
     let j = c.in-Some.j in
     let inv = c.loop-j.invariant in
     let is = c.decode.ensures.value ∙ ap (λ ws. decode (get_or ws j 0)) c.words.ensures.value in
-    let exit = err_from_is_err_and c.from-residual.result c.from-residual.ensures.1 in
+    let exit = err_from_is_err_and c.from_residual.result c.from_residual.ensures.1 in
     grown_refused any_onward _ _ _ c.loop-j.work _ inv.1 (λ R m h. leads sys _ _ j _ _ _ inv.0 inv.2 c.in-Some.ensures.1 is R m)
-    _ _ _ _ (grown_moved _ c.loop-j.work _ _ refl refl _ _ c.in-err-walk.ensures) (rw (exit.1, exit.2))
+    _ _ _ _ (grown_moved _ c.loop-j.work _ _ refl refl _ _ c.in_err-walk.ensures) (rw (exit.1, exit.2))
 
 pub returns : goal.returns
 returns g c =
     let inv = c.loop-j.invariant in
-    let rest = c.in-default.ensures in
+    let rest = c.in_default.ensures in
     record { grows = inv.1; ends = (rw (← inv.2) (idle_solves (system_of c.args.list.now) _ _ _ inv.0 rest), rest) }

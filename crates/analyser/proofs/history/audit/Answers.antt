@@ -8,12 +8,12 @@ use Rattle.analyser.proofs.history.audit.Goals as goal
 pub returns : goal.returns
 returns c =
     let further = c.args.further.now in
-    let first = subst (λ b. History b c.args.calls.now (vec_items c.in-ok-first.first)) c.new-one.ensures c.in-ok-first.ensures.says in
-    let second = subst (λ b. History b c.args.others.now (vec_items c.in-ok-second.second)) c.new-other.ensures c.in-ok-second.ensures.says in
-    let first_book = c.in-ok-first.ensures.after ∙ ap (λ b. book_from b c.args.calls.now) c.new-one.ensures in
-    let second_book = c.in-ok-second.ensures.after ∙ ap (λ b. book_from b c.args.others.now) c.new-other.ensures in
-    let first_further = subst (λ b. History b further (vec_items c.in-ok-first-further.first_further)) first_book c.in-ok-first-further.ensures.says in
-    let second_further = subst (λ b. History b further (vec_items c.in-ok-second-further.second_further)) second_book c.in-ok-second-further.ensures.says in
+    let first = subst (λ b. History b c.args.calls.now (vec_items c.in_ok-first.first)) c.new-one.ensures c.in_ok-first.ensures.says in
+    let second = subst (λ b. History b c.args.others.now (vec_items c.in_ok-second.second)) c.new-other.ensures c.in_ok-second.ensures.says in
+    let first_book = c.in_ok-first.ensures.after ∙ ap (λ b. book_from b c.args.calls.now) c.new-one.ensures in
+    let second_book = c.in_ok-second.ensures.after ∙ ap (λ b. book_from b c.args.others.now) c.new-other.ensures in
+    let first_further = subst (λ b. History b further (vec_items c.in_ok-first_further.first_further)) first_book c.in_ok-first_further.ensures.says in
+    let second_further = subst (λ b. History b further (vec_items c.in_ok-second_further.second_further)) second_book c.in_ok-second_further.ensures.says in
     record {
       first = first;
       second = second;

@@ -12,7 +12,7 @@ loop-c-preserved c =
     let i = c.loop-c.c-index in
     let b = book_of c.loop-c.analyser in
     let inv = c.loop-c.invariant in (
-      turn_reply start calls i c.loop-c-test.true b inv.1 (vec_items c.loop-c.replies) (vec_items c.push.new.self) c.make.result c.in-ok-push.ensures.items inv.0 c.make.ensures.says,
+      turn_reply start calls i c.loop-c-test.true b inv.1 (vec_items c.loop-c.replies) (vec_items c.push.new.self) c.make.result c.in_ok-push.ensures.items inv.0 c.make.ensures.says,
       turn_book start calls i c.loop-c-test.true b inv.1 (book_of c.make.new.analyser) c.make.ensures.after,
     )
 

@@ -8,7 +8,7 @@ pub returns-in-New : goal.returns-in-New
 returns-in-New g c =
     let v = c.args.v in
     let o = c.args.o in
-    let (fresh, after, inside, less) = rw c.in-New.is at c.in-ok-put.ensures.does in
+    let (fresh, after, inside, less) = rw c.in-New.is at c.in_ok-put.ensures.does in
     let few = total_below (g.S.RowStore.pairs c.args.self.now.store) v o c.requires.variable c.requires.object fresh in
     put_new _ _ _ _ _ v o c.requires.variable c.requires.object fresh after less c.put.ensures.fixed
     (λ counted. noted_new _ v o _ _ _ _ c.requires.variable c.requires.object fresh after (c.push.ensures (omega (arith, counted, few))))

@@ -20,22 +20,22 @@ spread-requires g c =
       held = c.loop-j.invariant.0.more _ _ c.requires.held;
     }
 
-pub returns-in-err-spread : goal.returns-in-err-spread
-returns-in-err-spread g c =
+pub returns-in_err-spread : goal.returns-in_err-spread
+returns-in_err-spread g c =
     let sys = system_of c.args.list.now in
     let j = c.loop-j.j in
     let is = c.decode.ensures.value ∙ ap (λ ws. decode (get_or ws j 0)) c.words-words.ensures.value in
-    let exit = err_from_is_err_and c.from-residual.result c.from-residual.ensures.1 in
+    let exit = err_from_is_err_and c.from_residual.result c.from_residual.ensures.1 in
     grown_refused (g.met.G.Grower.onward sys) _ _ _ _ _ c.loop-j.invariant.0
     (λ R m h. rw is (met_first sys c.args.n R m j c.loop-j-test.true (omega (arith, c.requires.short, c.loop-j-test.true))))
-    _ _ _ _ c.in-err-spread.ensures (rw (exit.1, exit.2))
+    _ _ _ _ c.in_err-spread.ensures (rw (exit.1, exit.2))
 
 pub loop-j-preserved : goal.loop-j-preserved
 loop-j-preserved g c =
     let sys = system_of c.args.list.now in
     let j = c.loop-j.j in
     let is = c.decode.ensures.value ∙ ap (λ ws. decode (get_or ws j 0)) c.words-words.ensures.value in
-    let done = c.in-ok-spread.ensures in
+    let done = c.in_ok-spread.ensures in
     let before = c.loop-j.invariant.0 in (
       grows_then (g.met.G.Grower.onward sys) _ _ _ _ _ before
           (λ R m h. rw is (met_first sys c.args.n R m j c.loop-j-test.true (omega (arith, c.requires.short, c.loop-j-test.true)))) done.grows,

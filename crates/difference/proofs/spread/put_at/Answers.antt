@@ -3,8 +3,8 @@ use Rattle.walks.proofs.Growth.{grown_weaker}
 use Rattle.walks.proofs.Slots.{slot_below}
 use Rattle.difference.proofs.spread.put_at.Goals as goal
 
-pub overflow-add-y : goal.overflow-add-y
-overflow-add-y g c = omega (arith, slot_below c.args.list.now c.args.y c.args.k (omega arith))
+pub overflow_add-y : goal.overflow_add-y
+overflow_add-y g c = omega (arith, slot_below c.args.list.now c.args.y c.args.k (omega arith))
 
 pub add-requires : goal.add-requires
 add-requires g c =

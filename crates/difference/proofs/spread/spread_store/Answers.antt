@@ -6,19 +6,19 @@ use Rattle.constraints.specs.declared.constraint.Constraint.TheVariants.{Store}
 use Rattle.walks.proofs.Growth.{grows_none, grows_weaker, grown_refused, grown_after}
 use Rattle.difference.proofs.spread.spread_store.Goals as goal
 
-pub returns-in-err-store-base : goal.returns-in-err-store-base
-returns-in-err-store-base g c =
+pub returns-in_err-store_base : goal.returns-in_err-store_base
+returns-in_err-store_base g c =
     let sys = system_of c.args.list.now in
-    let exit = err_from_is_err_and c.from-residual.result c.from-residual.ensures.1 in
+    let exit = err_from_is_err_and c.from_residual.result c.from_residual.ensures.1 in
     grown_refused (g.met.G.Grower.onward sys) _ _ _ _ _ (grows_none _ _ _ (g.met.G.Grower.still sys) (λ R. Meets sys.blocks (Store c.args.p c.args.k c.args.q) (pairs R)) _)
-    (λ R m h e b x t. m c.args.o x (rw e (h _ _ c.requires.held)) b t) _ _ _ _ c.in-err-store-base.ensures (rw (exit.1, exit.2))
+    (λ R m h e b x t. m c.args.o x (rw e (h _ _ c.requires.held)) b t) _ _ _ _ c.in_err-store_base.ensures (rw (exit.1, exit.2))
 
 pub returns : goal.returns
 returns g c =
     let sys = system_of c.args.list.now in
-    let base = c.in-ok-store-base.ensures in
-    let later = c.store-value.ensures.grows.more in
+    let base = c.in_ok-store_base.ensures in
+    let later = c.store_value.ensures.grows.more in
     grown_after (g.met.G.Grower.onward sys) (λ R. Meets sys.blocks (Store c.args.p c.args.k c.args.q) (pairs R)) _ _ _ _
     (grows_weaker (λ R m h e b x t. m c.args.o x (rw e (h _ _ c.requires.held)) b t) base.grows)
     (λ R m h e y l b. m y c.args.o l b (rw e (h _ _ (base.grows.more _ _ c.requires.held)))) _ _ (λ value. (λ e b x h. later _ _ (base.ends e b x h), λ e y l b. value e y (base.grows.more _ _ l) b))
-    _ c.store-value.ensures
+    _ c.store_value.ensures

@@ -10,6 +10,6 @@ returns c v k hv hk =
     let s = c.args.sources.now in
     let p = c.args.list.now in
     let width = c.variables.ensures.value in
-    c.mark-rows.ensures v k (omega (arith, width)) hk
+    c.mark_rows.ensures v k (omega (arith, width)) hk
     ∙ ap (gathered s.reach s.stand v k) width
     ∙ gathered_mark (system_of p) (list_valid p) s.reach s.stand c.requires.reach c.requires.stand v k hv hk

@@ -11,9 +11,9 @@ loop-u-init c =
 pub loop-u-preserved : goal.loop-u-preserved
 loop-u-preserved c = (
   (λ k h. gathered_more c.args.reach.now c.args.stand.now c.args.v k c.loop-u.u
-      (bit_at 80 c.args.marks.now c.args.v k) (bit_at 80 c.loop-u.marks c.args.v k) (bit_at 80 c.join-mark.new.marks c.args.v k)
-      (c.loop-u.invariant.0 k h) (c.join-mark.ensures.row k h)),
-  λ x k h ne. c.join-mark.ensures.others x k h ne ∙ c.loop-u.invariant.1 x k h ne,
+      (bit_at 80 c.args.marks.now c.args.v k) (bit_at 80 c.loop-u.marks c.args.v k) (bit_at 80 c.join_mark.new.marks c.args.v k)
+      (c.loop-u.invariant.0 k h) (c.join_mark.ensures.row k h)),
+  λ x k h ne. c.join_mark.ensures.others x k h ne ∙ c.loop-u.invariant.1 x k h ne,
 )
 
 pub returns : goal.returns

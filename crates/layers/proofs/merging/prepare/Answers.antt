@@ -15,7 +15,7 @@ reduce-plan-requires g c =
     let same = g.M.Merge.same in
     let reps = c.represent.new.reps in
     let width : c.variables-n.result ≡ var_count sys = c.variables-n.ensures.value in
-    let flags : Flags sys c.find-open.new.flags = λ v _. c.find-open.ensures v in
+    let flags : Flags sys c.find_open.new.flags = λ v _. c.find_open.ensures v in
     let told : Representatives sys (same sys) reps = c.represent.ensures.value sys (same sys) width flags c.classify.ensures in
     let within : (v : ℕ) → v < var_count sys → get_or reps v 0 < var_count sys =
     λ v h. omega (arith, width, c.represent.ensures.within v (omega (arith, width))) in
@@ -32,7 +32,7 @@ returns g c =
     let same = g.M.Merge.same in
     let reps = c.represent.new.reps in
     let width : c.variables-n.result ≡ var_count sys = c.variables-n.ensures.value in
-    let flags : Flags sys c.find-open.new.flags = λ v _. c.find-open.ensures v in
+    let flags : Flags sys c.find_open.new.flags = λ v _. c.find_open.ensures v in
     let told : Representatives sys (same sys) reps = c.represent.ensures.value sys (same sys) width flags c.classify.ensures in
     let within : (v : ℕ) → v < var_count sys → get_or reps v 0 < var_count sys =
     λ v h. omega (arith, width, c.represent.ensures.within v (omega (arith, width))) in

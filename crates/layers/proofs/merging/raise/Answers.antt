@@ -10,8 +10,8 @@ use Rattle.layers.specs.Layered.{rep_by, raised, handed, deeper, own_place}
 use Rattle.layers.proofs.Planning.{placed_by}
 use Rattle.layers.proofs.merging.raise.Goals as goal
 
-pub overflow-cast-result : goal.overflow-cast-result
-overflow-cast-result c = omega (arith, c.earliest-own.ensures.within, c.words.ensures.valid.few_words, ap length c.words.ensures.value)
+pub overflow_cast-result : goal.overflow_cast-result
+overflow_cast-result c = omega (arith, c.earliest-own.ensures.within, c.words.ensures.valid.few_words, ap length c.words.ensures.value)
 
 pub returns-in-NoRoom : goal.returns-in-NoRoom
 returns-in-NoRoom c same ready =
@@ -32,6 +32,6 @@ returns-in-NoRoom c same ready =
     ∙ ap (λ l. own_position (replacing (take (var_count sys) reps)) l x) c.words.ensures.value
     ∙ placed_by sys (list_valid p) same reps long ready.told ready.within x
     ∙ ap (own_position (rep_by same sys) sys.words) word in
-    let depth : c.saturating-add.result ≡ deeper o.depth = c.saturating-add.ensures in
+    let depth : c.saturating_add.result ≡ deeper o.depth = c.saturating_add.ensures in
     ap₂ (λ a d. NoRoom (record { position = a; depth = d; store = o.store })) place depth
     ∙ ap (raised same sys) (sym c.in-NoRoom.is)

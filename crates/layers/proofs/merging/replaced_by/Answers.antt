@@ -12,6 +12,6 @@ returns c same told =
     let reps = plan.reps in
     let width : c.variables.result ≡ var_count sys = c.variables.ensures.value in
     let long : var_count sys ≤ length reps = omega (arith, width, c.variables.ensures.few) in
-    c.count-replaced.ensures
+    c.count_replaced.ensures
     ∙ ap (λ n. count (length (take n reps)) (λ v. not (eqb (get_or (take n reps) v 0) v))) width
     ∙ replaced_by sys same reps long told

@@ -5,6 +5,6 @@ use Rattle.worklist.proofs.WorklistGrower.add.Goals as goal
 
 pub returns-in-New : goal.returns-in-New
 returns-in-New g c =
-    let (fresh, after, inside, less) = rw c.in-New.is at c.in-ok-put.ensures.does in
+    let (fresh, after, inside, less) = rw c.in-New.is at c.in_ok-put.ensures.does in
     put_new _ _ _ _ _ c.args.v c.args.o c.requires.variable c.requires.object fresh after less c.put.ensures.fixed
     (noted_new (system_of c.args.list.now) _ c.args.v c.args.o _ _ _ _ c.requires.variable c.requires.object fresh after c.mark.ensures)

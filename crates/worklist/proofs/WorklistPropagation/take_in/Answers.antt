@@ -5,8 +5,8 @@ use Rattle.solvers.proofs.Rests.{took}
 use Rattle.worklist.proofs.Runs.{ready_next}
 use Rattle.worklist.proofs.WorklistPropagation.take_in.Goals as goal
 
-pub overflow-add-self : goal.overflow-add-self
-overflow-add-self g c = omega (arith, c.requires.place, (list_valid c.args.list.now).few_words)
+pub overflow_add-self : goal.overflow_add-self
+overflow_add-self g c = omega (arith, c.requires.place, (list_valid c.args.list.now).few_words)
 
 pub insert-requires : goal.insert-requires
 insert-requires g c = omega (arith, c.requires.place, (list_valid c.args.list.now).few_words)

@@ -5,4 +5,4 @@ use Rattle.hu.proofs.classes.HuMerge.classify.Goals as goal
 pub returns : goal.returns
 returns c =
     let p = c.args.list.now in
-    c.number-marks.ensures (system_of p) (list_valid p) c.find-marks.ensures
+    c.number_marks.ensures (system_of p) (list_valid p) c.find_marks.ensures

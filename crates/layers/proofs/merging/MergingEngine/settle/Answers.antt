@@ -11,8 +11,8 @@ use Rattle.layers.proofs.Planning.{named}
 use Rattle.layers.proofs.Delegating.{overflow_within, layer_refused}
 use Rattle.layers.proofs.merging.MergingEngine.settle.Goals as goal
 
-pub hand-plan-requires : goal.hand-plan-requires
-hand-plan-requires g c =
+pub hand_plan-requires : goal.hand_plan-requires
+hand_plan-requires g c =
     let plan = c.prepare.new.plan in
     let sys = system_of plan.own in
     record {
@@ -32,9 +32,9 @@ raise-requires g c =
       named = subst (λ n. Named (take n plan.reps) sys.words) (sym p.counted) (named sys (list_valid p) same plan.reps ready.covers ready.told ready.within);
       counted = ready.counted;
       within = λ o e.
-          let inside = overflow_within _ _ c.in-Err.fault o (c.in-Err.ensures.settles c.hand-plan.ensures.keeps) e in
-          let list : length (g.E.Engine.meaning c.hand-plan.new.below).system.words ≡ length (take plan.count plan.remaining) =
-          ap (λ m. length m.system.words) c.hand-plan.ensures.after in
+          let inside = overflow_within _ _ c.in-Err.fault o (c.in-Err.ensures.settles c.hand_plan.ensures.keeps) e in
+          let list : length (g.E.Engine.meaning c.hand_plan.new.below).system.words ≡ length (take plan.count plan.remaining) =
+          ap (λ m. length m.system.words) c.hand_plan.ensures.after in
           omega (arith, inside, list, length-take plan.count plan.remaining);
     }
 
@@ -49,12 +49,12 @@ returns-in-Err g c =
     let m = e.meaning s.below in
     let n = e.meaning c.settle.new.self in
     let fault = c.in-Err.fault in
-    let given : e.meaning c.hand-plan.new.below ≡ gathering m (handed same sys) =
-    c.hand-plan.ensures.after ∙ ap (λ l. gathering m (record { blocks = sys.blocks; words = l })) ready.listed in
+    let given : e.meaning c.hand_plan.new.below ≡ gathering m (handed same sys) =
+    c.hand_plan.ensures.after ∙ ap (λ l. gathering m (record { blocks = sys.blocks; words = l })) ready.listed in
     let told : c.raise.result ≡ raised same sys fault = c.raise.ensures same ready in
     let refused : Settles (layered same m sys s.settled) (layered same n sys s.settled) (Err (raised same sys fault)) =
-    layer_refused same g.M.Merge.right m (e.meaning c.hand-plan.new.below) n sys s.settled fault (list_valid plan.own)
-    c.if-self.false given (c.in-Err.ensures.settles c.hand-plan.ensures.keeps) in
+    layer_refused same g.M.Merge.right m (e.meaning c.hand_plan.new.below) n sys s.settled fault (list_valid plan.own)
+    c.if-self.false given (c.in-Err.ensures.settles c.hand_plan.ensures.keeps) in
     record {
       settles = λ _.
           subst₂ (λ q f. Settles (layered same m (system_of q) s.settled) (layered same n sys s.settled) (Err f))
