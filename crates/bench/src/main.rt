@@ -139,7 +139,7 @@ fn lists_at_the_limits(rt: &HostRuntime) -> io::Result<()> {
 fn main(rt: HostRuntime) -> io::Result<()> {
     let mut times = false;
     for arg in env::args(&rt)? {
-        if arg == "--time" {
+        if arg.as_str() == "--time" {
             times = true;
         }
     }

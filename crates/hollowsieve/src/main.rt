@@ -12,6 +12,7 @@ use failure::Failure;
 use journal::Entry;
 use options::Command;
 use source::{Line, Source};
+use std::process::ExitCode;
 
 // The calls of the journal, with their texts.
 fn calls_of<'a>(
@@ -137,12 +138,12 @@ fn run(rt: &HostRuntime) -> Result<(), Failure> {
     Ok(())
 }
 
-fn main(rt: HostRuntime) -> Result<(), Failure> {
+fn main(rt: HostRuntime) -> ExitCode {
     match run(&rt) {
-        Ok(()) => Ok(()),
+        Ok(()) => ExitCode::SUCCESS,
         Err(failure) => {
             let _ = eprintln!(rt; "hollowsieve: {failure}");
-            Err(failure)
+            ExitCode::FAILURE
         }
     }
 }

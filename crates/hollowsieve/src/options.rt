@@ -24,7 +24,7 @@ options:
   --help         this text
   --version      the program's version and the toolchain it is proved with";
 
-pub const VERSION: &str = "hollowsieve 0.1.0 (rattle-kit-8b logic 7f726aa041520687)";
+pub const VERSION: &str = "hollowsieve 0.1.0 (rattle-kit-13f logic dac8208d650f15bf)";
 
 fn refused(rt: &HostRuntime, arg: &str, what: &str) -> Failure {
     match format!(in rt.alloc(); "'{arg}' {what}; see --help") {

@@ -8,7 +8,7 @@ pub returns : goal.returns
 returns c =
     let sys = system_of c.args.list.now in
     record {
-      opened = c.find-open.ensures;
+      opened = c.find_open.ensures;
       reaches = c.copy_reach.ensures.reach;
       arranged = subst (Arranged (copy_edge sys) c.arrange.new.order) c.variables.ensures.value (c.arrange.ensures (copy_edge sys) c.copy_reach.ensures.closure);
     }

@@ -16,12 +16,12 @@ loop-k-preserved c =
     let all = c.variables-n.ensures.value in
     let inside : k < var_count sys = omega (arith, all, c.loop-k-test.true) in
     progress_more sys valid flow.flags found.opened flow.reach flow.order found.reaches found.arranged
-    c.loop-k.rows c.number-at-x.new.rows c.loop-k.number k c.number-at-x.result
+    c.loop-k.rows c.number_at-x.new.rows c.loop-k.number k c.number_at-x.result
     inside (omega (arith, found.arranged.inside k inside, valid.few))
-    c.loop-k.invariant c.number-at-x.ensures.others
-    (subst₂ (λ ws n. RowDone ws flow.flags flow.reach c.loop-k.number n c.loop-k.rows c.number-at-x.new.rows k (get_or flow.order k 0) c.number-at-x.result)
-    c.words-words.ensures.value all c.number-at-x.ensures.is)
-    c.number-at-x.ensures.small
+    c.loop-k.invariant c.number_at-x.ensures.others
+    (subst₂ (λ ws n. RowDone ws flow.flags flow.reach c.loop-k.number n c.loop-k.rows c.number_at-x.new.rows k (get_or flow.order k 0) c.number_at-x.result)
+    c.words-words.ensures.value all c.number_at-x.ensures.is)
+    c.number_at-x.ensures.small
 
 pub returns : goal.returns
 returns c =

@@ -9,6 +9,6 @@ loop-i-init c = ((λ d h. brought_none c.args.words.now c.args.reach.now c.args.
 pub loop-i-preserved : goal.loop-i-preserved
 loop-i-preserved c = (
   (λ d h. brought_more c.args.words.now c.args.reach.now c.args.number.now c.args.v c.loop-i.i d _ _ _ _
-      (c.loop-i.invariant.0 d h) (c.put-number.ensures.row d h) c.element-of-x.ensures),
-  λ y d h ne. c.put-number.ensures.others y d h ne ∙ c.loop-i.invariant.1 y d h ne,
+      (c.loop-i.invariant.0 d h) (c.put_number.ensures.row d h) c.element_of-x.ensures),
+  λ y d h ne. c.put_number.ensures.others y d h ne ∙ c.loop-i.invariant.1 y d h ne,
 )

@@ -6,9 +6,9 @@ use Rattle.standing.proofs.Refusing.{none_stands}
 use Rattle.standing.proofs.Accepting.{standing_text}
 use Rattle.standing.proofs.lister.list_slot.Goals as goal
 
-pub returns-then-not-is-standing : goal.returns-then-not-is-standing
-returns-then-not-is-standing c =
-    let none = none_stands (slot_text c.args.slot.now) (sym c.if-not-is-standing.ensures) in
+pub returns-then-not-is_standing : goal.returns-then-not-is_standing
+returns-then-not-is_standing c =
+    let none = none_stands (slot_text c.args.slot.now) (sym c.if-not-is_standing.ensures) in
     let nothing = ap (unit_listing (firsts_of c.args.names.now) c.args.unit) none in
     record {
       written = sym (ap (overlaid c.args.out.now c.args.from) nothing);
@@ -17,9 +17,9 @@ returns-then-not-is-standing c =
 
 pub returns : goal.returns
 returns c =
-    let text = standing_text c.args.slot.now c.if-not-is-standing.ensures ∙ ap Some (sym c.text.ensures) in
+    let text = standing_text c.args.slot.now c.if-not-is_standing.ensures ∙ ap Some (sym c.text.ensures) in
     let all = ap (unit_listing (firsts_of c.args.names.now) c.args.unit) text in
     record {
-      written = c.list-words-count.ensures.written ∙ sym (ap (overlaid c.args.out.now c.args.from) all);
-      after = λ few. omega (arith, c.saturating-add.ensures, c.list-words-count.ensures.count, ap length all, few);
+      written = c.list_words-count.ensures.written ∙ sym (ap (overlaid c.args.out.now c.args.from) all);
+      after = λ few. omega (arith, c.saturating_add.ensures, c.list_words-count.ensures.count, ap length all, few);
     }

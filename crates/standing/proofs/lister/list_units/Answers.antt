@@ -24,9 +24,9 @@ loop-u-preserved c = λ long few.
     let here : slot_text c.index-slots-u.result ≡ get_or us u None = sym (slot_at c.args.slots.now u c.index-slots-u.result inside ∙ ap slot_text (sym c.index-slots-u.is)) in
     let same : unit_listing f u (slot_text c.index-slots-u.result) ≡ unit_listing f u (get_or us u None) = ap (unit_listing f u) here in
     let room = listing_room f us u c.loop-u.from c.loop-u.out out_long few count before in
-    let r : c.list-slot-from.result ≡ c.loop-u.from + length (unit_listing f u (get_or us u None)) = c.list-slot-from.ensures.after (omega (arith, ap length same, room)) ∙ ap (λ (ls : List ListedWord). c.loop-u.from + length ls) same in (
+    let r : c.list_slot-from.result ≡ c.loop-u.from + length (unit_listing f u (get_or us u None)) = c.list_slot-from.ensures.after (omega (arith, ap length same, room)) ∙ ap (λ (ls : List ListedWord). c.loop-u.from + length ls) same in (
       r ∙ listing_count f us u c.loop-u.from c.loop-u.out out_long few count before,
-      ap (λ (k : ℕ). take k c.list-slot-from.new.out) r ∙ ap (take (c.loop-u.from + length (unit_listing f u (get_or us u None)))) (c.list-slot-from.ensures.written ∙ ap (overlaid c.loop-u.out c.loop-u.from) same)
+      ap (λ (k : ℕ). take k c.list_slot-from.new.out) r ∙ ap (take (c.loop-u.from + length (unit_listing f u (get_or us u None)))) (c.list_slot-from.ensures.written ∙ ap (overlaid c.loop-u.out c.loop-u.from) same)
           ∙ listing_there f us u c.loop-u.from c.loop-u.out out_long few count before,
     )
 

@@ -7,14 +7,14 @@ use Rattle.books.specs.Targets.{cell_if, pointer}
 use Rattle.standing.specs.Firsts.{cell_if_within}
 use Rattle.standing.proofs.lookup.pointer_variable.Goals as goal
 
-abbrev name : goal.After-cell-variable → List ℕ
+abbrev name : goal.After-cell_variable → List ℕ
 name c = (name_in_text c.args.text.now c.in-Some.place.base).bytes
 
 pub returns-in-Some : goal.returns-in-Some
 unfolding pointer
 returns-in-Some c = λ es places.
-    c.cell-variable.ensures es places
-    ∙ ap (λ (n : List ℕ). cond (ltb c.slot_number.result (size_of es n)) (Some (first_of es n + c.slot_number.result)) None) c.bytes-of.ensures
+    c.cell_variable.ensures es places
+    ∙ ap (λ (n : List ℕ). cond (ltb c.slot_number.result (size_of es n)) (Some (first_of es n + c.slot_number.result)) None) c.bytes_of.ensures
     ∙ ap (λ (k : ℕ). cond (ltb k (size_of es (name c))) (Some (first_of es (name c) + k)) None) c.slot_number.ensures.is
     ∙ ap (λ (o : Option Place). cell_if_within es (cell_if o)) c.in-Some.ensures
 

@@ -14,23 +14,23 @@ loop-found-init c = rest_all c.args.text.now _ c.requires (subst (All Short) (al
 pub loop-found-preserved : goal.loop-found-preserved
 loop-found-preserved c =
     let call = c.mention in
-    rest_then _ (rest_here c.loop-found.invariant _ c.next-declaration.ensures.next _ c.in-Some.is)
+    rest_then _ (rest_here c.loop-found.invariant _ c.next_declaration.ensures.next _ c.in-Some.is)
     (λ ds h.
-    let step = fit_more c.args.text.now c.in-Some.found _ c.bytes-of-name.ensures c.loop-found.names call.new.self _ call.result c.is-definition.ensures call.ensures.reply call.ensures.after call.ensures.variables ds c.in-ok-mention.was in
-    let entered = enter_more c.args.text.now c.in-Some.found _ c.bytes-of-name.ensures c.loop-found.names call.new.self _ call.result c.is-definition.ensures call.ensures.reply call.ensures.after call.ensures.variables ds in
+    let step = fit_more c.args.text.now c.in-Some.found _ c.bytes_of-name.ensures c.loop-found.names call.new.self _ call.result c.is_definition.ensures call.ensures.reply call.ensures.after call.ensures.variables ds c.in_ok-mention.was in
+    let entered = enter_more c.args.text.now c.in-Some.found _ c.bytes_of-name.ensures c.loop-found.names call.new.self _ call.result c.is_definition.ensures call.ensures.reply call.ensures.after call.ensures.variables ds in
     (h.0.1, h.1 ∙ step, h.2 ∙ entered))
 
-pub returns-in-err-mention : goal.returns-in-err-mention
-returns-in-err-mention c =
+pub returns-in_err-mention : goal.returns-in_err-mention
+returns-in_err-mention c =
     let call = c.mention in
-    let here = rest_here c.loop-found.invariant _ c.next-declaration.ensures.next _ c.in-Some.is in
-    let refused = err_not_ok _ c.from-residual.ensures.0 in
+    let here = rest_here c.loop-found.invariant _ c.next_declaration.ensures.next _ c.in-Some.is in
+    let refused = err_not_ok _ c.from_residual.ensures.0 in
     record {
-      fits = refused ∙ sym (here.holds.1 ∙ fit_no_more c.args.text.now c.in-Some.found _ c.bytes-of-name.ensures c.loop-found.names call.new.self _ call.result c.is-definition.ensures call.ensures.reply here.rest _ c.in-err-mention.was);
+      fits = refused ∙ sym (here.holds.1 ∙ fit_no_more c.args.text.now c.in-Some.found _ c.bytes_of-name.ensures c.loop-found.names call.new.self _ call.result c.is_definition.ensures call.ensures.reply here.rest _ c.in_err-mention.was);
       after = λ ok. absurd (false≢true (sym refused ∙ ok));
     }
 
 pub returns : goal.returns
 returns c =
-    let (short, fits, entered) = rest_none c.loop-found.invariant _ c.next-declaration.ensures.next c.in-default.is in
+    let (short, fits, entered) = rest_none c.loop-found.invariant _ c.next_declaration.ensures.next c.in_default.is in
     record { fits = sym fits; after = λ ok. sym entered }

@@ -8,8 +8,8 @@ loop-found-init c = rest_all c.args.text.now _ c.requires refl
 
 pub loop-found-preserved : goal.loop-found-preserved
 loop-found-preserved c =
-    rest_then _ (rest_here c.loop-found.invariant _ c.next-declaration.ensures.next _ c.in-Some.is)
-    (λ ds h. h ∙ forget_more c.args.text.now c.in-Some.found _ c.bytes-of.ensures c.loop-found.names c.forget.new.self _ c.is-definition.ensures c.forget.ensures.after ds)
+    rest_then _ (rest_here c.loop-found.invariant _ c.next_declaration.ensures.next _ c.in-Some.is)
+    (λ ds h. h ∙ forget_more c.args.text.now c.in-Some.found _ c.bytes_of.ensures c.loop-found.names c.forget.new.self _ c.is_definition.ensures c.forget.ensures.after ds)
 
 pub returns : goal.returns
-returns c = sym (rest_none c.loop-found.invariant _ c.next-declaration.ensures.next c.in-default.is)
+returns c = sym (rest_none c.loop-found.invariant _ c.next_declaration.ensures.next c.in_default.is)

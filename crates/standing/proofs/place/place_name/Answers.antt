@@ -14,9 +14,9 @@ returns-then-note-eq-NOWHERE c =
     record {
       same = same_placed l.variables known (notes c.place.new.self) name is;
       laid = λ units es k fits laid.
-          lay_new units es known (notes c.place.new.self) l c.push-block.new.self (record { name = name; slots = k }) c.args.owner c.saturating-add.result fits laid
+          lay_new units es known (notes c.place.new.self) l c.push_block.new.self (record { name = name; slots = k }) c.args.owner c.saturating_add.result fits laid
           (sym (ap first_in c.in-Some.ensures) ∙ c.if-note-eq-NOWHERE.true)
-          (omega (arith, c.saturating-add.ensures, fits.size, fits.small, ap size_in c.in-Some.ensures)) is c.push-block.ensures;
+          (omega (arith, c.saturating_add.ensures, fits.size, fits.small, ap size_in c.in-Some.ensures)) is c.push_block.ensures;
     }
 
 pub returns-else-note-eq-NOWHERE : goal.returns-else-note-eq-NOWHERE
@@ -29,9 +29,9 @@ returns-else-note-eq-NOWHERE c =
           (λ e. c.if-note-eq-NOWHERE.false (ap first_in c.in-Some.ensures ∙ e));
     }
 
-pub returns-in-default : goal.returns-in-default
-returns-in-default c =
+pub returns-in_default : goal.returns-in_default
+returns-in_default c =
     record {
       same = record { sizes = λ n. refl; counts = λ n. refl; defined = λ n. refl };
-      laid = λ units es k fits laid. absurd (omega (arith, fits.size, ap size_in c.in-default.ensures));
+      laid = λ units es k fits laid. absurd (omega (arith, fits.size, ap size_in c.in_default.ensures));
     }

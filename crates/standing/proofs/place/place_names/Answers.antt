@@ -17,17 +17,17 @@ pub loop-found-preserved : goal.loop-found-preserved
 loop-found-preserved c =
     let text = c.args.text.now in
     let known = notes c.loop-found.names in
-    let after = notes c.place-name.new.names in
-    let same = c.place-name.ensures.same in (
+    let after = notes c.place_name.new.names in
+    let same = c.place_name.ensures.same in (
       same_then c.loop-found.invariant.0 same,
       λ units es there admitted can laid.
-          rest_then _ (rest_here (c.loop-found.invariant.1 units es there admitted can laid) _ c.next-declaration.ensures.next _ c.in-Some.is)
+          rest_then _ (rest_here (c.loop-found.invariant.1 units es there admitted can laid) _ c.next_declaration.ensures.next _ c.in-Some.is)
           (λ ds h.
           let (fs, laid-so-far, can-here, all) = h in
-          let fits = fits_one units fs text c.args.unit c.in-Some.found ds _ known there c.bytes-of-name.ensures can-here in
-          let next = can_more units fs text c.args.unit c.in-Some.found ds _ known there c.bytes-of-name.ensures can-here after same in
-          let step = lay_here units fs text c.args.unit c.in-Some.found ds _ known there c.bytes-of-name.ensures can-here in
-          (lay_entry fs (record { name = c.bytes-of-name.result.now; slots = c.in-Some.found.slots }), c.place-name.ensures.laid units fs c.in-Some.found.slots fits laid-so-far, next, sym step ∙ all)),
+          let fits = fits_one units fs text c.args.unit c.in-Some.found ds _ known there c.bytes_of-name.ensures can-here in
+          let next = can_more units fs text c.args.unit c.in-Some.found ds _ known there c.bytes_of-name.ensures can-here after same in
+          let step = lay_here units fs text c.args.unit c.in-Some.found ds _ known there c.bytes_of-name.ensures can-here in
+          (lay_entry fs (record { name = c.bytes_of-name.result.now; slots = c.in-Some.found.slots }), c.place_name.ensures.laid units fs c.in-Some.found.slots fits laid-so-far, next, sym step ∙ all)),
     )
 
 pub returns : goal.returns
@@ -35,6 +35,6 @@ returns c =
     record {
       same = c.loop-found.invariant.0;
       laid = λ units es there admitted can laid.
-          let (fs, laid-all, can-none, all) = rest_none (c.loop-found.invariant.1 units es there admitted can laid) _ c.next-declaration.ensures.next c.in-default.is in
+          let (fs, laid-all, can-none, all) = rest_none (c.loop-found.invariant.1 units es there admitted can laid) _ c.next_declaration.ensures.next c.in_default.is in
           subst (λ (gs : List Entry). Laid units gs (notes c.loop-found.names) c.loop-found.list) all laid-all;
     }

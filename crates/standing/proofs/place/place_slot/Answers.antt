@@ -10,23 +10,23 @@ use Rattle.standing.proofs.Accepting.{standing_text}
 use Rattle.standing.proofs.Laying.{standing_same, table_more, layable}
 use Rattle.standing.proofs.place.place_slot.Goals as goal
 
-pub returns-then-is-standing : goal.returns-then-is-standing
-returns-then-is-standing c =
+pub returns-then-is_standing : goal.returns-then-is_standing
+returns-then-is_standing c =
     let known = notes c.args.names.now in
     record {
-      same = c.place-names.ensures.same;
+      same = c.place_names.ensures.same;
       laid = λ units there texts knows laid.
-          let text = there ∙ standing_text c.args.slot.now c.if-is-standing.ensures ∙ ap Some (sym c.text.ensures) in
+          let text = there ∙ standing_text c.args.slot.now c.if-is_standing.ensures ∙ ap Some (sym c.text.ensures) in
           let admitted = was_read _ (texts.admitted _ (stood_there units c.args.unit _ text)) in
-          subst (λ (es : List Entry). Laid units es (notes c.place-names.new.names) c.place-names.new.list) (table_more units c.args.unit _ known texts knows text)
-          (c.place-names.ensures.laid units _ text admitted (layable units c.args.unit _ known texts knows text) laid);
+          subst (λ (es : List Entry). Laid units es (notes c.place_names.new.names) c.place_names.new.list) (table_more units c.args.unit _ known texts knows text)
+          (c.place_names.ensures.laid units _ text admitted (layable units c.args.unit _ known texts knows text) laid);
     }
 
-pub returns-else-is-standing : goal.returns-else-is-standing
-returns-else-is-standing c =
+pub returns-else-is_standing : goal.returns-else-is_standing
+returns-else-is_standing c =
     record {
       same = record { sizes = λ n. refl; counts = λ n. refl; defined = λ n. refl };
       laid = λ units there texts knows laid.
-          let none = there ∙ none_stands _ (sym c.if-is-standing.ensures) in
+          let none = there ∙ none_stands _ (sym c.if-is_standing.ensures) in
           subst (λ (ts : List (List ℕ)). Laid units (table ts) (notes c.args.names.now) c.args.list.now) (sym (standing_same units c.args.unit none)) laid;
     }

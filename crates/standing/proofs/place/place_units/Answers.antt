@@ -17,8 +17,8 @@ loop-u-preserved c =
     let slots = c.args.slots.now in
     let u = c.loop-u.u in
     let inside : u < length slots = omega arith in (
-      same_then c.loop-u.invariant.0 c.place-slot.ensures.same,
-      λ texts knows laid. c.place-slot.ensures.laid (texts_in slots) (slot_at slots u c.index-slots-u.result inside ∙ ap slot_text (sym c.index-slots-u.is)) texts (same_knows c.loop-u.invariant.0 knows) (c.loop-u.invariant.1 texts knows laid),
+      same_then c.loop-u.invariant.0 c.place_slot.ensures.same,
+      λ texts knows laid. c.place_slot.ensures.laid (texts_in slots) (slot_at slots u c.index-slots-u.result inside ∙ ap slot_text (sym c.index-slots-u.is)) texts (same_knows c.loop-u.invariant.0 knows) (c.loop-u.invariant.1 texts knows laid),
     )
 
 pub returns : goal.returns

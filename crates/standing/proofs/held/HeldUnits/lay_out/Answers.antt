@@ -17,9 +17,9 @@ returns c =
     let h = c.args.self.now in
     let units = texts_in h.slots in
     let s = c.requires in
-    let unplaced = same_unplaced (notes h.names) (notes c.unplace-all.new.self) c.unplace-all.ensures.after in
+    let unplaced = same_unplaced (notes h.names) (notes c.unplace_all.new.self) c.unplace_all.ensures.after in
     let knows = same_knows unplaced s.known in
-    let start = laid_none (notes h.names) (notes c.unplace-all.new.self) c.unplace-all.ensures.after units c.clear.new.self c.clear.ensures.0 c.clear.ensures.1 in
+    let start = laid_none (notes h.names) (notes c.unplace_all.new.self) c.unplace_all.ensures.after units c.clear.new.self c.clear.ensures.0 c.clear.ensures.1 in
     let laid = c.place_units.ensures.laid (record { book = s.book; admitted = s.admitted }) knows start in
     let whole = list_same units (notes c.place_units.new.names) s.book laid.firsts in
     let few : length (listing_from (firsts_of c.place_units.new.names) 0 units) ≤ 512 = omega (arith, ap length whole, listed_few units s.book) in

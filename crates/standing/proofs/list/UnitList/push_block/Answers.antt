@@ -8,5 +8,5 @@ returns-then-n-lt256 c = λ few small.
       blocks = take_more_set c.args.self.now.blocks c.args.self.now.block_count c.args.len (omega arith);
       owners = take_more_set c.args.self.now.owners c.args.self.now.block_count c.args.owner (omega arith);
       count = omega arith;
-      variables = omega (arith, c.saturating-add-self.ensures, c.ranges.len.fits);
+      variables = omega (arith, c.saturating_add-self.ensures, c.ranges.len.fits);
     }

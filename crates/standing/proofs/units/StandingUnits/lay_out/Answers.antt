@@ -7,20 +7,20 @@ use Rattle.standing.specs.States.{LaidOut}
 use Rattle.standing.proofs.Sounds.{is_sound}
 use Rattle.standing.proofs.units.StandingUnits.lay_out.Goals as goal
 
-pub lay-out-requires : goal.lay-out-requires
-lay-out-requires c = is_sound c.args.self.now.sound
+pub lay_out-requires : goal.lay_out-requires
+lay_out-requires c = is_sound c.args.self.now.sound
 
-pub invariant-of-self : goal.invariant-of-self
-invariant-of-self c = (∣ c.lay-out.ensures.sound ∣₁, tt)
+pub invariant_of-self : goal.invariant_of-self
+invariant_of-self c = record { sound = ∣ c.lay_out.ensures.sound ∣₁ }
 
 pub returns : goal.returns
 unfolding LaidOut
 returns c =
     record {
-      same = ap texts_in c.lay-out.ensures.same;
-      lists = c.lay-out.ensures.lists;
-      origins = c.lay-out.ensures.origins;
-      owners = c.lay-out.ensures.owners;
-      laid = λ n. c.lay-out.ensures.laid n ∙ ap (λ (ss : List Slot). laid_first (table (standing (texts_in ss))) n) (sym c.lay-out.ensures.same);
+      same = ap texts_in c.lay_out.ensures.same;
+      lists = c.lay_out.ensures.lists;
+      origins = c.lay_out.ensures.origins;
+      owners = c.lay_out.ensures.owners;
+      laid = λ n. c.lay_out.ensures.laid n ∙ ap (λ (ss : List Slot). laid_first (table (standing (texts_in ss))) n) (sym c.lay_out.ensures.same);
       book = (is_sound c.args.self.now.sound).book;
     }

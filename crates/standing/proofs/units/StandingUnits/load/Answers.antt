@@ -4,8 +4,8 @@ use Rattle.standing.proofs.units.StandingUnits.load.Goals as goal
 pub load-requires : goal.load-requires
 load-requires c = is_sound c.args.self.now.sound
 
-pub invariant-of-self : goal.invariant-of-self
-invariant-of-self c = (∣ c.load.ensures.sound ∣₁, tt)
+pub invariant_of-self : goal.invariant_of-self
+invariant_of-self c = record { sound = ∣ c.load.ensures.sound ∣₁ }
 
 pub returns : goal.returns
 returns c =

@@ -16,8 +16,8 @@ returns-in-Some c =
     let units = units_of c.args.self.now in
     let es = table (standing units) in
     record {
-      found = λ laid. c.cell-variable.ensures es (places_of c.args.self.now laid)
-          ∙ ap (λ (n : List ℕ). cond (ltb 0 (size_of es n)) (Some (first_of es n + 0)) None) c.bytes-of.ensures ∙ name_number units (name_in_text c.args.text.now c.in-Some.name)
+      found = λ laid. c.cell_variable.ensures es (places_of c.args.self.now laid)
+          ∙ ap (λ (n : List ℕ). cond (ltb 0 (size_of es n)) (Some (first_of es n + 0)) None) c.bytes_of.ensures ∙ name_number units (name_in_text c.args.text.now c.in-Some.name)
           ∙ ap (λ (o : Option Name). object_number units (known_name (standing units) o)) c.in-Some.ensures;
       book = (is_sound c.args.self.now.sound).book;
     }

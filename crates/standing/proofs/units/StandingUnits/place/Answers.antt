@@ -13,7 +13,7 @@ unfolding place_among
 returns-in-Some c =
     let units = units_of c.args.self.now in
     record {
-      found = λ laid. c.place-variable.ensures (table (standing units)) (places_of c.args.self.now laid) ∙ place_number units (place_in c.args.text.now c.in-Some.place)
+      found = λ laid. c.place_variable.ensures (table (standing units)) (places_of c.args.self.now laid) ∙ place_number units (place_in c.args.text.now c.in-Some.place)
           ∙ ap (λ (o : Option Place). cell_number units (known_cell (standing units) o)) c.in-Some.ensures.is;
       book = (is_sound c.args.self.now.sound).book;
     }

@@ -4,8 +4,8 @@ use Rattle.standing.proofs.units.StandingUnits.unload.Goals as goal
 pub unload-requires : goal.unload-requires
 unload-requires c = is_sound c.args.self.now.sound
 
-pub invariant-of-self : goal.invariant-of-self
-invariant-of-self c = (∣ c.unload.ensures.sound ∣₁, tt)
+pub invariant_of-self : goal.invariant_of-self
+invariant_of-self c = record { sound = ∣ c.unload.ensures.sound ∣₁ }
 
 pub returns : goal.returns
 returns c =
