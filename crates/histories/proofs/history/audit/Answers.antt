@@ -12,10 +12,10 @@ returns g c =
     let further = c.args.further.now in
     let host = c.new-host.ensures in
     let fresh = c.new-fresh.ensures in
-    let ran = c.in-ok-first.ensures in
-    let other_ran = c.in-ok-second.ensures in
-    let first = replayed rule _ _ _ _ calls further _ _ host.rule host.made ran.says ran.after ran.rule c.in-ok-first-further.ensures.says in
-    let second = replayed other_rule _ _ _ _ others further _ _ fresh.rule fresh.made other_ran.says other_ran.after other_ran.rule c.in-ok-second-further.ensures.says in
+    let ran = c.in_ok-first.ensures in
+    let other_ran = c.in_ok-second.ensures in
+    let first = replayed rule _ _ _ _ calls further _ _ host.rule host.made ran.says ran.after ran.rule c.in_ok-first_further.ensures.says in
+    let second = replayed other_rule _ _ _ _ others further _ _ fresh.rule fresh.made other_ran.says other_ran.after other_ran.rule c.in_ok-second_further.ensures.says in
     record {
       first = first.0;
       second = second.0;

@@ -10,9 +10,9 @@ returns g c =
     let b = book_of c.args.analyser.now in
     let before = c.args.before.now in
     let called = c.targets-outcome.ensures in
-    let copied = c.in-ok-buffer.ensures in
-    let same = c.deref-mut.ensures.value ∙ copied.items-if-clones-equal (λ x y e. e) in
-    let whole : length c.targets-outcome.new.buffer ≡ c.in-ok-buffer.buffer.len = omega (arith, c.targets-outcome.auto.buffer, ap length same, copied.len) in
+    let copied = c.in_ok-buffer.ensures in
+    let same = c.deref_mut.ensures.value ∙ copied.items-if-clones-equal (λ x y e. e) in
+    let whole : length c.targets-outcome.new.buffer ≡ c.in_ok-buffer.buffer.len = omega (arith, c.targets-outcome.auto.buffer, ap length same, copied.len) in
     record {
       says = targets_say b (λ e. (c.requires e).lawful) c.args.unit c.args.index before _ (
         called.replies c.requires ∙ ap (targets_reply b c.args.unit c.args.index) same,

@@ -16,8 +16,8 @@ loop-c-preserved g c =
     let inv = c.loop-c.invariant in
     let here = (meaning c.loop-c.analyser.engine).rule in
     let b = book_of c.loop-c.analyser in (
-      turn_reply rule start calls i c.loop-c-test.true here inv.2 b inv.1 (vec_items c.loop-c.replies) (vec_items c.push.new.self) c.in-ok-make.field-0
-          c.in-ok-push.ensures.items inv.0 c.in-ok-make.ensures.says,
+      turn_reply rule start calls i c.loop-c-test.true here inv.2 b inv.1 (vec_items c.loop-c.replies) (vec_items c.push.new.self) c.in_ok-make.field-0
+          c.in_ok-push.ensures.items inv.0 c.in_ok-make.ensures.says,
       turn_book rule start calls i c.loop-c-test.true here inv.2 b inv.1 (book_of c.make.new.analyser) c.make.ensures.after,
       c.make.ensures.rule ∙ inv.2,
       c.make.ensures.keeps,

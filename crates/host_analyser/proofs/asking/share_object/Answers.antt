@@ -3,8 +3,8 @@ use Rattle.constraints.specs.Least.{least}
 use Rattle.host_analyser.proofs.Objects.{still_next, share_none_second, share_none_first, share_none_left, share_some}
 use Rattle.host_analyser.proofs.asking.share_object.Goals as goal
 
-pub returns-in-default : goal.returns-in-default
-returns-in-default g c =
+pub returns-in_default : goal.returns-in_default
+returns-in_default g c =
     let m = g.E.Engine.meaning c.args.engine.now in
     let S = g.E.Engine.sound c.args.engine.now in
     let row = least m.system in
@@ -12,13 +12,13 @@ returns-in-default g c =
     record {
       answer = λ one other.
           share_none_first (row c.args.v) (row c.args.w) c.loop-turn.from (inv.2 one other).1
-          (still_next m S c.args.v c.loop-turn.from _ _ None inv.0 inv.1 one c.in-default.ensures.found);
+          (still_next m S c.args.v c.loop-turn.from _ _ None inv.0 inv.1 one c.in_default.ensures.found);
       stays = c.next_object.ensures.stays ∙ inv.0;
       keeps = λ safe. c.next_object.ensures.keeps (inv.1 safe);
     }
 
-pub returns-in-default-next-object : goal.returns-in-default-next-object
-returns-in-default-next-object g c =
+pub returns-in_default-next_object : goal.returns-in_default-next_object
+returns-in_default-next_object g c =
     let m = g.E.Engine.meaning c.args.engine.now in
     let S = g.E.Engine.sound c.args.engine.now in
     let row = least m.system in
@@ -30,9 +30,9 @@ returns-in-default-next-object g c =
       answer = λ one other.
           share_none_second (row c.args.v) (row c.args.w) from o (inv.2 one other).1
           (still_next m S c.args.v from _ _ (Some o) inv.0 inv.1 one c.in-Some.ensures.found)
-          (still_next m S c.args.w o _ _ None moved (λ s. c.next_object.ensures.keeps (inv.1 s)) other c.in-default-next-object.ensures.found);
-      stays = c.next-object-in-loop-turn.ensures.stays ∙ moved;
-      keeps = λ safe. c.next-object-in-loop-turn.ensures.keeps (c.next_object.ensures.keeps (inv.1 safe));
+          (still_next m S c.args.w o _ _ None moved (λ s. c.next_object.ensures.keeps (inv.1 s)) other c.in_default-next_object.ensures.found);
+      stays = c.next_object-in-loop-turn.ensures.stays ∙ moved;
+      keeps = λ safe. c.next_object-in-loop-turn.ensures.keeps (c.next_object.ensures.keeps (inv.1 safe));
     }
 
 pub returns-then-p-o : goal.returns-then-p-o
@@ -43,15 +43,15 @@ returns-then-p-o g c =
     let inv = c.loop-turn.invariant in
     let from = c.loop-turn.from in
     let o = c.in-Some.o in
-    let p = c.in-Some-next-object.p in
+    let p = c.in-Some-next_object.p in
     let moved = c.next_object.ensures.stays ∙ inv.0 in
     record {
       answer = λ one other.
           share_some (row c.args.v) (row c.args.w) from o p (sym c.if-p-o.true)
           (still_next m S c.args.v from _ _ (Some o) inv.0 inv.1 one c.in-Some.ensures.found)
-          (still_next m S c.args.w o _ _ (Some p) moved (λ s. c.next_object.ensures.keeps (inv.1 s)) other c.in-Some-next-object.ensures.found);
-      stays = c.next-object-in-loop-turn.ensures.stays ∙ moved;
-      keeps = λ safe. c.next-object-in-loop-turn.ensures.keeps (c.next_object.ensures.keeps (inv.1 safe));
+          (still_next m S c.args.w o _ _ (Some p) moved (λ s. c.next_object.ensures.keeps (inv.1 s)) other c.in-Some-next_object.ensures.found);
+      stays = c.next_object-in-loop-turn.ensures.stays ∙ moved;
+      keeps = λ safe. c.next_object-in-loop-turn.ensures.keeps (c.next_object.ensures.keeps (inv.1 safe));
     }
 
 pub returns : goal.returns

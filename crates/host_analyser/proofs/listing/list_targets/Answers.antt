@@ -42,16 +42,16 @@ loop-i-preserved g c =
     let blocks_are = c.blocks-blocks.ensures in
     let size = get_or c.blocks-blocks.result.now i 0 in
     let inside : i < length list.blocks = omega (arith, c.loop-i-test.true, c.min.ensures, c.min-i-end.ensures, ap length blocks_are) in
-    let put = c.put-target-n.ensures in (
+    let put = c.put_target-n.ensures in (
       omega (arith, inv.0, put.bound),
       put.stays ∙ inv.1,
       λ safe. put.keeps (inv.2 safe),
       λ es tabled ready.
           turn_lines m S c.args.v units list owners es tabled ready i inside no_owner (g.E.Engine.meaning c.loop-i.engine) (g.E.Engine.sound c.loop-i.engine) inv.1 inv.2
-          c.loop-i.out c.args.out.now c.name-at.result.now c.loop-i.n c.loop-i.first size (ap (λ bs. get_or bs i 0) blocks_are)
-          (c.name-at.ensures ∙ ap (λ os. owned_name units (get_or os i no_owner)) c.owners-owners.ensures) (inv.3 es tabled ready)
-          c.put-target-n.new.out c.put-target-n.result c.saturating-add-first.result put.written put.count
-          (λ few. omega (arith, c.saturating-add-first.ensures)),
+          c.loop-i.out c.args.out.now c.name_at.result.now c.loop-i.n c.loop-i.first size (ap (λ bs. get_or bs i 0) blocks_are)
+          (c.name_at.ensures ∙ ap (λ os. owned_name units (get_or os i no_owner)) c.owners-owners.ensures) (inv.3 es tabled ready)
+          c.put_target-n.new.out c.put_target-n.result c.saturating_add-first.result put.written put.count
+          (λ few. omega (arith, c.saturating_add-first.ensures)),
     )
 
 pub returns : goal.returns

@@ -9,13 +9,13 @@ returns g c =
     let meaning = g.E.Engine.meaning in
     let sound = g.E.Engine.sound in
     let a = c.args.self.now in
-    let asked = c.share-object.ensures in
+    let asked = c.share_object.ensures in
     record {
       replies = λ in_step.
           let right = in_step c.if-not-self.false in
           alias_answered (book_of a) (meaning a.engine) (sound a.engine) right.safe right.holds right.settled c.if-not-self.false
-          c.args.first.now c.args.second.now _ _ (c.in-Some.ensures.found right.laid) (c.in-Some-place.ensures.found right.laid) c.share-object.result asked.answer;
+          c.args.first.now c.args.second.now _ _ (c.in-Some.ensures.found right.laid) (c.in-Some-place.ensures.found right.laid) c.share_object.result asked.answer;
       book = refl;
       rule = ap (λ m. m.rule) asked.stays;
-      keeps = λ in_step settled. asked_right meaning sound a c.share-object.new.engine asked.stays asked.keeps (in_step settled);
+      keeps = λ in_step settled. asked_right meaning sound a c.share_object.new.engine asked.stays asked.keeps (in_step settled);
     }

@@ -4,12 +4,12 @@ use Rattle.host_analyser.specs.Replies.{result_of}
 use Rattle.host_analyser.proofs.Refused.{refused_reply, load_refused, load_stays, still_right}
 use Rattle.host_analyser.proofs.analyser.Analyser.load.Goals as goal
 
-pub returns-in-err-load : goal.returns-in-err-load
-returns-in-err-load g c =
-    let p = err_from_is_err_and c.from-residual.result c.from-residual.ensures.1 in
-    let was = c.in-err-load.was in
+pub returns-in_err-load : goal.returns-in_err-load
+returns-in_err-load g c =
+    let p = err_from_is_err_and c.from_residual.result c.from_residual.ensures.1 in
+    let was = c.in_err-load.was in
     let units = c.args.self.now.units in
-    let f = c.in-err-load.field-0.0 in
+    let f = c.in_err-load.field-0.0 in
     let applies = refused_reply _ f (sym was ∙ c.load.ensures.replies) in
     let same = load_refused units c.load.new.self c.args.unit c.args.text.now f applies c.load.ensures.after in
     record {

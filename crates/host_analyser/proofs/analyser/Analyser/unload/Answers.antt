@@ -4,12 +4,12 @@ use Rattle.host_analyser.specs.Replies.{result_of}
 use Rattle.host_analyser.proofs.Refused.{refused_reply, unload_refused, unload_stays, still_right}
 use Rattle.host_analyser.proofs.analyser.Analyser.unload.Goals as goal
 
-pub returns-in-err-unload : goal.returns-in-err-unload
-returns-in-err-unload g c =
-    let p = err_from_is_err_and c.from-residual.result c.from-residual.ensures.1 in
-    let was = c.in-err-unload.was in
+pub returns-in_err-unload : goal.returns-in_err-unload
+returns-in_err-unload g c =
+    let p = err_from_is_err_and c.from_residual.result c.from_residual.ensures.1 in
+    let was = c.in_err-unload.was in
     let units = c.args.self.now.units in
-    let f = c.in-err-unload.field-0.0 in
+    let f = c.in_err-unload.field-0.0 in
     let applies = refused_reply _ f (sym was ∙ c.unload.ensures.replies) in
     let same = unload_refused units c.unload.new.self c.args.unit f applies c.unload.ensures.after in
     record {
