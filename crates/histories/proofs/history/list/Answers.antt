@@ -11,7 +11,7 @@ returns g c =
     let before = c.args.before.now in
     let called = c.targets-outcome.ensures in
     let copied = c.in_ok-buffer.ensures in
-    let same = c.deref_mut.ensures.value ∙ copied.items-if-clones-equal (λ x y e. e) in
+    let same = c.deref_mut.ensures.value ∙ copied.items_if_clones_equal (λ x y e. e) in
     let whole : length c.targets-outcome.new.buffer ≡ c.in_ok-buffer.buffer.len = omega (arith, c.targets-outcome.auto.buffer, ap length same, copied.len) in
     record {
       says = targets_say b (λ e. (c.requires e).lawful) c.args.unit c.args.index before _ (
