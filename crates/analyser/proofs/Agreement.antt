@@ -1,5 +1,5 @@
 -- Two histories that go on from the same texts are replied alike.
-use Rattle.std.proofs.Common.{◌≡◌, ℕ, ◌+◌, ◌<◌, not, ltb, List, [], ◌∷◌, length, get_or, take, set, is_some, Some, None, Option, sym, refl, ap, ◌∙◌, arith}
+use Rattle.std.proofs.Common.{◌≡◌, ℕ, ◌<◌, not, ltb, List, [], ◌∷◌, length, get_or, take, set, is_some, Some, None, Option, sym, ap, ◌∙◌, arith}
 use Rattle.std.proofs.lemmas.List.{ext_get_or}
 use Rattle.declarations.specs.Verdicts.{unit_verdict}
 use Rattle.analyser.specs.declared.Call.{Call}

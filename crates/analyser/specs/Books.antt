@@ -1,5 +1,5 @@
 -- The book: which texts stand under the unit numbers 0 to 7, and whether it is settled. It is fed the calls' arguments and no reply.
-use Rattle.std.specs.Prelude.{ℕ, Bool, true, false, cond, not, List, [], ◌∷◌, take, replicate, is_some, Some, None, Ok, Err, Option, Result, nat_lt, slice_index_or, slice_set}
+use Rattle.std.specs.Prelude.{ℕ, Bool, false, cond, not, List, [], ◌∷◌, take, replicate, is_some, Some, None, Ok, Err, Option, Result, nat_lt, slice_index_or, slice_set}
 use Rattle.declarations.specs.Verdicts.{unit_verdict}
 use Rattle.analyser.specs.declared.refusal.Refusal.{Refusal}
 use Rattle.analyser.specs.declared.refusal.Refusal.TheVariants.{NoSuchUnit, UnitStands, NothingStands}

@@ -1,5 +1,5 @@
 -- Refusals: the number of each, the values that it carries, and the first that applies.
-use Rattle.std.specs.Prelude.{ℕ, Bool, true, false, cond, List, [], ◌∷◌, Some, None, Ok, Err, Option, Result}
+use Rattle.std.specs.Prelude.{ℕ, Bool, cond, List, [], ◌∷◌, Some, None, Ok, Err, Option, Result}
 use Rattle.lexemes.specs.declared.location.Location.{Location}
 use Rattle.grammar.specs.declared.unit.UnitFault.{UnitFault}
 use Rattle.grammar.specs.declared.unit.UnitFault.TheVariants.{TooLong, Grammar, Declaration}

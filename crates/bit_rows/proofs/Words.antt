@@ -1,5 +1,5 @@
 -- One bit of the words set: one pair more.
-use Rattle.std.proofs.Common.{◌≡◌, ℕ, zero, suc, ◌+◌, ◌-◌, ◌*◌, ◌/◌, ◌%◌, ◌^◌, ◌<◌, ◌≤◌, Bool, true, false, cond, ◌&&◌, ◌||◌, eqb, leb, ◌⊎◌, List, ◌++◌, length, get_or, drop, set, replicate, refl, ap, ◌∙◌, inl, inr, ⊎_elim, arith}
+use Rattle.std.proofs.Common.{◌≡◌, ℕ, zero, suc, ◌+◌, ◌-◌, ◌/◌, ◌%◌, ◌^◌, ◌<◌, ◌≤◌, Bool, true, false, cond, ◌&&◌, ◌||◌, eqb, leb, ◌⊎◌, List, length, get_or, drop, replicate, refl, ap, ◌∙◌, inl, inr, ⊎_elim, arith}
 use mathlib.Core.Path.{fun_ext}
 use lib.Bits.{bit_or}
 use lib.Bits.{shifted_even}
@@ -8,9 +8,9 @@ use Rattle.std.proofs.lemmas.Nat.{or_shr, or_mod, pow_pos, pow-add, pow_below, s
 use Rattle.std.proofs.lemmas.Bool.{cases_order, cases_eq, cases_lt, le-leb, lt-leb, and_parts}
 use Rattle.std.proofs.lemmas.List.{get_or-set_same, get_or-set_other, length-set, get_or_append_left, get_or-replicate, length-replicate, length-append, length-drop, drop_at, drop-set-lt}
 use Rattle.std.proofs.lemmas.Bool.Decides.{nat_tests}
-use Rattle.constraints.specs.Rows.{Rows, empty, with_pair, total}
+use Rattle.constraints.specs.Rows.{empty, with_pair, total}
 use Rattle.constraints.proofs.Rows.{total_bound}
-use Rattle.rows.specs.Stores.{Inside, in_range, Within}
+use Rattle.rows.specs.Stores.{in_range, Within}
 use Rattle.rows.proofs.Counts.{total_empty, inside_parts}
 use Rattle.bit_rows.specs.Bits.{bit, word_of, bit_pairs, put_bit, cleared, bit_room, bit_spare}
 

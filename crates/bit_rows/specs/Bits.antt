@@ -1,5 +1,5 @@
 -- A set of pairs as bits of words.
-use Rattle.std.specs.Prelude.{ℕ, ◌+◌, ◌*◌, ◌/◌, ◌%◌, ◌^◌, Bool, true, false, cond, ◌&&◌, List, ◌++◌, length, drop, set, replicate, ◌==◌, bit_or, nat_le, slice_index, slice_set}
+use Rattle.std.specs.Prelude.{ℕ, ◌+◌, ◌*◌, ◌/◌, ◌%◌, ◌^◌, Bool, cond, ◌&&◌, List, ◌++◌, length, drop, replicate, ◌==◌, bit_or, nat_le, slice_index, slice_set}
 use Rattle.constraints.specs.Rows.{Rows}
 use Rattle.rows.specs.Stores.{in_range}
 

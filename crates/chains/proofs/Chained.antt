@@ -1,20 +1,20 @@
 -- The answers of a sound store of chains, and an empty one.
-use Rattle.std.proofs.Common.{◌≡◌, ℕ, ◌+◌, ◌<◌, ◌≤◌, Bool, true, false, cond, ◌&&◌, eqb, List, length, get_or, set, replicate, Some, None, sym, refl, ap, ◌∙◌, ⊎_elim, arith}
+use Rattle.std.proofs.Common.{◌≡◌, ℕ, ◌<◌, ◌≤◌, false, List, length, replicate, Some, None, sym, ap, ◌∙◌, ⊎_elim, arith}
 use mathlib.Core.Path.{fun_ext}
 use mathlib.Core.Logic.{∥∥₁_elim}
-use Rattle.std.proofs.lemmas.Bool.{cases_lt, lt-ltb, eq-eqb, ne_eqb, and_parts}
-use Rattle.std.proofs.lemmas.List.{get_or-replicate, length-replicate, get_or-set_same, get_or-set_other, length-set}
+use Rattle.std.proofs.lemmas.Bool.{cases_lt, lt-ltb, ne_eqb, and_parts}
+use Rattle.std.proofs.lemmas.List.{get_or-replicate, length-replicate}
 use Rattle.std.proofs.lemmas.Bool.Decides.{nat_tests}
 use Rattle.chains.specs.declared.Cell.{Cell}
 use Rattle.constraints.specs.Finite.{count}
 use Rattle.constraints.specs.Rows.{empty, total}
 use Rattle.rows.specs.Stores.{in_range, Within, Found}
-use Rattle.chains.specs.Cells.{end, cell_at, link_of, object_of, reach, above, head_of, in_row, chain_pairs, chain_room, Passed, Rising, RisingRows, Apart, Placed, Sound, Sound-prop, put_first, put_after, Spliced}
+use Rattle.chains.specs.Cells.{end, object_of, reach, above, head_of, in_row, chain_pairs, chain_room, Passed, Rising, RisingRows, Apart, Placed, Sound, Sound-prop}
 use Rattle.rows.proofs.Counts.{count_same, total_empty, inside_parts}
 use std.HLevel.{Π_prop}
 use denote.Struct.Props.{props}
-use Rattle.chains.proofs.Reach.{reach_zero, object_end, above_cell, stays, goes_on, step_stay, agree}
-use Rattle.chains.proofs.Walks.{row_gap, row_here, object_cell}
+use Rattle.chains.proofs.Reach.{reach_zero, object_end, stays}
+use Rattle.chains.proofs.Walks.{row_gap, row_here}
 
 rising_prop : (cs : List Cell) (hs : List ℕ) (used : ℕ) → IsProp (RisingRows cs hs used)
 rising_prop cs hs used = Π_prop (λ v. Π_prop (λ hv. Π_prop (λ o. Π_prop (λ ho. passed_prop (reach cs (head_of hs v) o) o))))

@@ -1,10 +1,10 @@
 -- What the two ways to insert a cell leave: a sound store with one pair more.
-use Rattle.std.proofs.Common.{◌≡◌, ℕ, ◌+◌, ◌<◌, ◌≤◌, Bool, true, false, cond, eqb, List, length, drop, set, sym, refl, ap, ◌∙◌, subst, ⊎_elim, arith}
-use Rattle.std.proofs.lemmas.Bool.{cases_eq, eqb-false, eq-eqb}
+use Rattle.std.proofs.Common.{◌≡◌, ℕ, ◌+◌, ◌<◌, false, cond, eqb, List, length, drop, set, sym, refl, ap, ◌∙◌, subst, ⊎_elim, arith}
+use Rattle.std.proofs.lemmas.Bool.{cases_eq, eqb-false}
 use Rattle.std.proofs.lemmas.List.{get_or-set_same, get_or-set_other, length-set, drop-set-lt}
 use Rattle.chains.specs.declared.Cell.{Cell}
 use Rattle.constraints.specs.Rows.{with_pair}
-use Rattle.chains.specs.Cells.{end, cell_at, link_of, object_of, step, reach, above, head_of, chain_pairs, chain_room, chain_spare, numbers, Placed, Sound, put_first, put_after, Spliced}
+use Rattle.chains.specs.Cells.{end, cell_at, link_of, object_of, step, reach, head_of, chain_pairs, chain_room, chain_spare, numbers, Placed, Sound, put_first, put_after, Spliced}
 use Rattle.chains.proofs.Reach.{above_cell, reach_next, step_on}
 use Rattle.chains.proofs.Walks.{object_cell}
 use Rattle.chains.proofs.Chained.{pair_in_row, place_reach}

@@ -1,11 +1,11 @@
 -- A fresh cell spliced into a row: the row has one object more, and the others stay.
-use Rattle.std.proofs.Common.{◌≡◌, ℕ, zero, suc, ◌+◌, ◌<◌, ◌≤◌, Bool, true, false, cond, ◌&&◌, ◌||◌, eqb, ◌⊎◌, List, length, sym, refl, ap, ◌∙◌, inl, inr, ⊎_elim, arith}
+use Rattle.std.proofs.Common.{◌≡◌, ℕ, ◌+◌, ◌<◌, ◌≤◌, false, ◌&&◌, ◌||◌, eqb, ◌⊎◌, List, length, sym, ap, ◌∙◌, inl, inr, ⊎_elim, arith}
 use mathlib.Core.Path.{fun_ext}
-use Rattle.std.proofs.lemmas.Bool.{cases_eq, cases_lt, eq-eqb, ne_eqb}
+use Rattle.std.proofs.lemmas.Bool.{cases_eq, cases_lt, ne_eqb}
 use Rattle.std.proofs.lemmas.Bool.Decides.{nat_tests}
 use Rattle.chains.specs.declared.Cell.{Cell}
 use Rattle.constraints.specs.Rows.{with_pair, total}
-use Rattle.chains.specs.Cells.{end, link_of, object_of, step, reach, above, head_of, in_row, chain_pairs, chain_room, Passed, Placed, Sound, Spliced}
+use Rattle.chains.specs.Cells.{end, object_of, step, reach, above, head_of, in_row, chain_pairs, chain_room, Passed, Placed, Sound, Spliced}
 use Rattle.rows.proofs.Counts.{total_with}
 use Rattle.chains.proofs.Reach.{step_on, step_stay, object_end, above_cell, above_end, reach_zero, reach_next, stays, agree}
 

@@ -1,9 +1,9 @@
 -- What a walk along a row tells of its objects.
-use Rattle.std.proofs.Common.{◌≡◌, ℕ, ◌+◌, ◌<◌, ◌≤◌, Bool, true, false, cond, eqb, List, sym, refl, ap, ◌∙◌, ⊎_elim, arith}
+use Rattle.std.proofs.Common.{◌≡◌, ℕ, ◌+◌, ◌<◌, ◌≤◌, true, false, List, ap, ◌∙◌, arith}
 use Rattle.std.proofs.lemmas.Bool.{eq-eqb, ne_eqb}
 use Rattle.chains.specs.declared.Cell.{Cell}
 use Rattle.constraints.specs.Finite.{count}
-use Rattle.chains.specs.Cells.{end, cell_at, link_of, object_of, reach, above, in_row, Rising, Placed}
+use Rattle.chains.specs.Cells.{end, cell_at, link_of, object_of, reach, above, in_row}
 use Rattle.rows.proofs.Counts.{count_yes, count_skip}
 use Rattle.chains.proofs.Reach.{object_end, above_cell, stays, goes_on}
 

@@ -1,5 +1,5 @@
 -- Rows as chains of cells with rising objects.
-use Rattle.std.specs.Prelude.{◌≡◌, ℕ, zero, suc, ◌+◌, ◌<◌, ◌≤◌, min, Bool, true, false, cond, ◌&&◌, List, [], ◌∷◌, length, drop, vec_items, ◌==◌, ◌≢◌, slice_index, slice_index_or, slice_set}
+use Rattle.std.specs.Prelude.{◌≡◌, ℕ, zero, suc, ◌+◌, ◌<◌, ◌≤◌, min, Bool, cond, ◌&&◌, List, [], ◌∷◌, length, drop, vec_items, ◌==◌, ◌≢◌, slice_index, slice_index_or, slice_set}
 use Rattle.chains.specs.declared.Cell.{Cell}
 use Rattle.chains.specs.declared.Links.{Links}
 use Rattle.constraints.specs.Rows.{Rows, total}

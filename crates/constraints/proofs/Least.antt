@@ -1,14 +1,13 @@
 -- `least` is the smallest solution.
-use Rattle.std.proofs.Common.{◌≡◌, ℕ, zero, suc, ◌+◌, ◌*◌, ◌/◌, ◌%◌, ◌<◌, ◌≤◌, Bool, true, false, cond, ◌&&◌, ◌||◌, T, eqb, ltb, ◌⊎◌, List, [], ◌∷◌, length, get_or, sym, refl, ap, ◌∙◌, subst, inl, inr, zero-le, not-suc-le-zero, arith, eqb→eq, ltb→lt, lt→ltb}
+use Rattle.std.proofs.Common.{◌≡◌, ℕ, zero, suc, ◌+◌, ◌*◌, ◌<◌, ◌≤◌, Bool, T, eqb, List, [], ◌∷◌, length, get_or, refl, inl, inr, not-suc-le-zero, arith, eqb→eq, ltb→lt, lt→ltb}
 use lib.Dec.{eqb_refl}
-use Rattle.std.proofs.lemmas.Bool.{cases_eq, cases_lt, cond_both, eqb-true}
+use Rattle.std.proofs.lemmas.Bool.{cond_both, eqb-true}
 use Rattle.std.proofs.lemmas.List.{length-take, get_or-take}
-use Rattle.constraints.specs.Finite.{any}
 use Rattle.constraints.specs.Rows.{Rows, Relation, pairs, ◌⊑◌}
 use Rattle.constraints.specs.Constraint.{Constraint, address, copy, load, store, decode, of_kind, kind, left, offset, right, System, variables, var_count, Valid, length_of, length_from, Meets, Has, Closed, Solves, constraint, left_of, some_constraint, takes, taken, first}
 use Rattle.constraints.specs.Least.{follows, apply_all, range, least}
 use Rattle.constraints.proofs.Finite.{or_cases, or_left, or_right, and_intro, and_left, and_right, any_intro, any_elim}
-use Rattle.constraints.proofs.Rows.{rows_equal, at_rest, iterate_within}
+use Rattle.constraints.proofs.Rows.{at_rest, iterate_within}
 
 from_below : (start : ℕ) (blocks : List ℕ) (o k : ℕ) → k < length_from start blocks o → o + k < start + variables blocks
 from_below start [] o k = λ h. absurd (not-suc-le-zero h)

@@ -1,12 +1,11 @@
 -- The test shows what is handed down.
-use Rattle.std.proofs.Common.{◌≡◌, ℕ, ◌<◌, Bool, true, false, not, ◌&&◌, ◌||◌, T, eqb, ◌⊎◌, List, [], ◌∷◌, sym, refl, ap, subst, inl, inr, eqb→eq}
+use Rattle.std.proofs.Common.{◌≡◌, ℕ, Bool, not, ◌&&◌, ◌||◌, T, eqb, List, [], ◌∷◌, refl, subst, inl, inr, eqb→eq}
 use Rattle.constraints.specs.Finite.{every}
-use Rattle.constraints.specs.Rows.{Rows, ◌⊑◌}
 use Rattle.constraints.specs.Constraint.{System, var_count}
-use Rattle.constraints.specs.Graph.{Graph, Walk, here, along, one_further, reaches}
+use Rattle.constraints.specs.Graph.{Graph, Walk, here, along, reaches}
 use Rattle.constraints.specs.Merge.{copy_edge, copy_reach, representative}
 use Rattle.constraints.specs.Reduced.{reduce_onto, replaced}
-use Rattle.constraints.specs.Outcome.{Pair, rows_of, each_pair}
+use Rattle.constraints.specs.Outcome.{Pair, rows_of}
 use Rattle.constraints.specs.MergeOutcome.{walked, no_further, is_reach, same_list, Reduction, is_reduction, RightReduction, all_reductions, RightReductions}
 use Rattle.constraints.proofs.Finite.{or_cases, and_left, and_right, every_elim}
 use Rattle.constraints.proofs.Rows.{rows_equal}

@@ -1,14 +1,12 @@
 -- The test shows the smallest solution.
-use Rattle.std.proofs.Common.{◌≡◌, ℕ, ◌+◌, ◌<◌, Bool, true, false, not, ◌&&◌, ◌||◌, T, eqb, ltb, ◌⊎◌, List, [], ◌∷◌, length, sym, refl, inl, inr, eqb→eq, lt→ltb, T_not}
+use Rattle.std.proofs.Common.{◌≡◌, ℕ, ◌+◌, Bool, true, false, not, ◌&&◌, ◌||◌, T, eqb, ltb, List, [], ◌∷◌, length, sym, inl, inr, eqb→eq, lt→ltb}
 use lib.Dec.{eqb_refl}
-use Rattle.constraints.specs.Finite.{every}
-use Rattle.constraints.specs.Rows.{Rows, pairs, ◌⊑◌}
-use Rattle.constraints.specs.Constraint.{Constraint, address, copy, load, store, System, length_of, Meets, Has, Solves, constraint, some_constraint}
+use Rattle.constraints.specs.Rows.{pairs, ◌⊑◌}
+use Rattle.constraints.specs.Constraint.{Constraint, address, copy, load, store, System, length_of, Meets, Solves, constraint}
 use Rattle.constraints.specs.Least.{follows, least}
 use Rattle.constraints.specs.Outcome.{Pair, rows_of, each_pair, derived, meets, is_outcome}
 use Rattle.constraints.proofs.Finite.{or_cases, and_intro, and_left, and_right, every_elim}
-use Rattle.constraints.proofs.Rows.{rows_equal}
-use Rattle.constraints.proofs.Least.{some_elim, least_within}
+use Rattle.constraints.proofs.Least.{some_elim}
 use Rattle.constraints.proofs.Solver.{settled_least, follows_within}
 
 pub each_elim : (f : ℕ → ℕ → Bool) (ps : List Pair) → T (each_pair f ps) → (v o : ℕ) → T (rows_of ps v o) → T (f v o)

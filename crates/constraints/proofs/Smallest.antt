@@ -1,5 +1,5 @@
 -- The smallest solution of a valid system.
-use Rattle.std.proofs.Common.{◌≡◌, ℕ, ◌<◌, T, ◌↔◌}
+use Rattle.std.proofs.Common.{◌≡◌, ℕ, T, ◌↔◌}
 use Rattle.constraints.specs.Rows.{Rows, pairs, ◌⊑◌}
 use Rattle.constraints.specs.Constraint.{System, Solves, Solution, Smallest, Valid}
 use Rattle.constraints.specs.Least.{least}

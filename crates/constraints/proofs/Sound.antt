@@ -1,7 +1,7 @@
 -- Every list is valid.
-use Rattle.std.proofs.Common.{◌≡◌, ℕ, ◌<◌, ◌≤◌, length, get_or, take, sym, subst, arith}
+use Rattle.std.proofs.Common.{◌<◌, get_or, take, arith}
 use Rattle.std.proofs.lemmas.List.{length-take, get_or-take}
-use Rattle.constraints.specs.Constraint.{Valid, WellFormed}
+use Rattle.constraints.specs.Constraint.{Valid}
 use Rattle.constraints.specs.Lists.{system_of}
 use Rattle.constraints.specs.declared.list.ConstraintList.{ConstraintList}
 use Rattle.constraints.proofs.Formed.{word_formed}

@@ -1,5 +1,5 @@
 -- What a list means, and what each change of it replies and leaves.
-use Rattle.std.specs.Prelude.{ℕ, ◌+◌, Bool, cond, ◌&&◌, List, [], ◌∷◌, ◌++◌, length, take, Ok, Err, Result, nat_le, nat_lt}
+use Rattle.std.specs.Prelude.{ℕ, ◌+◌, cond, ◌&&◌, [], ◌∷◌, ◌++◌, length, take, Ok, Err, Result, nat_le, nat_lt}
 use Rattle.constraints.specs.Constraint.{System, var_count}
 use Rattle.constraints.specs.Words.{is_word}
 use Rattle.constraints.specs.declared.list.calls.ListFault.{ListFault}

@@ -2,7 +2,7 @@
 use Rattle.std.specs.Prelude.{◌≡◌, ℕ, Bool, true, false, not, ◌&&◌, ◌||◌, List, [], ◌∷◌, ◌==◌}
 use Rattle.constraints.specs.Finite.{every}
 use Rattle.constraints.specs.Constraint.{System, var_count}
-use Rattle.constraints.specs.Graph.{Graph, one_further, reaches}
+use Rattle.constraints.specs.Graph.{Graph, one_further}
 use Rattle.constraints.specs.Merge.{copy_edge, copy_reach, representative}
 use Rattle.constraints.specs.Reduced.{reduce_onto, replaced}
 use Rattle.constraints.specs.Outcome.{Pair, rows_of, each_pair}

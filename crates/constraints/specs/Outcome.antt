@@ -1,9 +1,9 @@
 -- Systems with known outcomes: a computed test that a list of pairs is the smallest solution.
-use Rattle.std.specs.Prelude.{◌≡◌, ℕ, ◌+◌, Bool, true, false, cond, not, ◌&&◌, ◌||◌, List, [], ◌∷◌, length, ◌==◌, nat_lt}
+use Rattle.std.specs.Prelude.{ℕ, ◌+◌, Bool, true, false, not, ◌&&◌, ◌||◌, List, [], ◌∷◌, length, ◌==◌, nat_lt}
 use Rattle.constraints.specs.Finite.{every}
 use Rattle.constraints.specs.Rows.{Rows}
 use Rattle.constraints.specs.Constraint.{Constraint, address, copy, load, store, System, length_of, constraint, some_constraint}
-use Rattle.constraints.specs.Least.{follows, least}
+use Rattle.constraints.specs.Least.{follows}
 
 pub record Pair : Type 0 where
   pub variable : ℕ

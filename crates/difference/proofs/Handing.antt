@@ -1,5 +1,5 @@
 -- A pair handed on, and the rules with it.
-use Rattle.std.proofs.Common.{◌≡◌, ℕ, ◌+◌, ◌<◌, ◌⊎◌, List, refl, inl, inr, ⊎_elim}
+use Rattle.std.proofs.Common.{◌≡◌, ℕ, ◌+◌, ◌<◌, ◌⊎◌, List, ⊎_elim}
 use Rattle.constraints.specs.Rows.{Relation}
 use Rattle.constraints.specs.Constraint.{length_of}
 use Rattle.constraints.specs.declared.constraint.Constraint.{Constraint}

@@ -1,7 +1,7 @@
 -- A turn of the loop: the pair that came first is handed on.
-use Rattle.std.proofs.Common.{◌≡◌, ℕ, ◌+◌, ◌-◌, ◌*◌, ◌<◌, ◌≤◌, T, ◌⊎◌, length, get_or, sym, refl, ap, ◌∙◌, inl, inr, ⊎_elim, arith}
+use Rattle.std.proofs.Common.{◌≡◌, ℕ, ◌+◌, ◌-◌, ◌*◌, ◌<◌, ◌≤◌, T, ◌⊎◌, length, sym, ◌∙◌, inl, inr, ⊎_elim, arith}
 use Rattle.std.proofs.lemmas.Bool.{cases_eq}
-use Rattle.constraints.specs.Rows.{Rows, Relation, pairs, total}
+use Rattle.constraints.specs.Rows.{Rows, pairs, total}
 use Rattle.constraints.specs.Constraint.{System, constraint, Solves, first}
 use Rattle.constraints.specs.Least.{least}
 use Rattle.constraints.proofs.Least.{least_solves}

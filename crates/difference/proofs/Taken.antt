@@ -1,5 +1,5 @@
 -- A word is taken in: it is walked, then the new pairs are handed on.
-use Rattle.std.proofs.Common.{◌≡◌, ℕ, ◌+◌, ◌<◌, ◌≤◌, length, Ok, Err, Result, refl, ◌∙◌, arith}
+use Rattle.std.proofs.Common.{◌≡◌, ℕ, ◌+◌, ◌<◌, ◌≤◌, length, Err, Result, refl, arith}
 use Rattle.constraints.specs.Rows.{Rows, pairs, total}
 use Rattle.constraints.specs.Constraint.{System, constraint, Meets, Solves, first}
 use Rattle.constraints.specs.declared.constraint.Constraint.{Constraint}

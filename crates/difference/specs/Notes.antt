@@ -1,11 +1,11 @@
 -- Notes follow one another, and a put with its pair pending is one.
-use Rattle.std.specs.Prelude.{◌≡◌, ℕ, ◌+◌, ◌<◌, ◌≤◌, false, T, ◌⊎◌, refl}
+use Rattle.std.specs.Prelude.{◌≡◌, ℕ, ◌<◌, false, refl}
 use Rattle.std.proofs.Common.{◌∙◌, inl, inr, ⊎_elim, arith}
-use Rattle.constraints.specs.Rows.{Rows, ◌⊑◌, with_pair, total}
+use Rattle.constraints.specs.Rows.{Rows, with_pair}
 use Rattle.rows.proofs.Counts.{total_with}
 use Rattle.walks.proofs.Puts.{new_grows, new_held, new_only}
 use Rattle.difference.specs.declared.pending.Pending.{Pending}
-use Rattle.difference.specs.Queue.{Pends, Pushed, Noted, Counted}
+use Rattle.difference.specs.Queue.{Pushed, Noted, Counted}
 
 pub counted_then : (n m : ℕ) (P P' : Rows) (q q' : Pending) → Counted P q → Noted n m P P' q q' → Counted P' q'
 counted_then n m P P' q q' counted a = omega (arith, counted, a.counts)

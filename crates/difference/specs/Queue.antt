@@ -1,5 +1,5 @@
 -- The queue of pairs that are not yet handed on.
-use Rattle.std.specs.Prelude.{◌≡◌, ℕ, ◌+◌, ◌/◌, ◌%◌, ◌<◌, ◌≤◌, T, ◌⊎◌, List, length, slice_index}
+use Rattle.std.specs.Prelude.{◌≡◌, ℕ, ◌+◌, ◌/◌, ◌%◌, ◌<◌, ◌≤◌, T, ◌⊎◌, length, slice_index}
 use Rattle.constraints.specs.Rows.{Rows, Relation, ◌⊑◌, pairs, total}
 use Rattle.constraints.specs.Constraint.{System, constraint}
 use Rattle.walks.specs.Rules.{Rule}

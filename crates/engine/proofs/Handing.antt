@@ -1,8 +1,8 @@
 -- An engine that takes the blocks and words of a valid list.
-use Rattle.std.proofs.Common.{◌≡◌, ℕ, zero, suc, ◌+◌, ◌<◌, ◌≤◌, Bool, true, false, List, [], ◌∷◌, ◌++◌, length, get_or, take, Ok, Err, Result, sym, refl, ap, ◌∙◌, arith}
+use Rattle.std.proofs.Common.{◌≡◌, ℕ, zero, suc, ◌+◌, ◌<◌, ◌≤◌, List, [], ◌∷◌, length, get_or, take, Ok, Err, Result, sym, ap, arith}
 use Rattle.std.proofs.lemmas.List.{take_more, length-take-le}
 use Rattle.std.proofs.lemmas.Bool.{le-leb, lt-ltb}
-use Rattle.constraints.specs.Constraint.{System, Valid, variables}
+use Rattle.constraints.specs.Constraint.{Valid, variables}
 use Rattle.engine.specs.Meanings.{Meaning, gathering, block_answer, block_added, add_answer, word_added}
 use Rattle.constraints.proofs.Formed.{formed_word}
 

@@ -1,5 +1,5 @@
 -- What an engine means, and what each call replies and leaves.
-use Rattle.std.specs.Prelude.{◌≡◌, ℕ, ◌<◌, Bool, true, false, cond, ◌&&◌, T, length, Some, None, Ok, Err, Option, Result, nat_lt}
+use Rattle.std.specs.Prelude.{◌≡◌, ℕ, ◌<◌, Bool, true, false, cond, ◌&&◌, T, length, Ok, Err, Option, Result, nat_lt}
 use Rattle.constraints.specs.Finite.{count}
 use Rattle.constraints.specs.Constraint.{System, var_count, length_of, Valid}
 use Rattle.constraints.specs.Least.{least}

@@ -1,13 +1,11 @@
 -- Flags of open variables, word by word.
-use Rattle.std.proofs.Common.{◌≡◌, ℕ, zero, suc, ◌+◌, ◌-◌, ◌/◌, ◌%◌, ◌^◌, ◌<◌, ◌≤◌, Bool, true, false, cond, ◌&&◌, ◌||◌, T, eqb, ltb, leb, ◌≢◌, ◌⊎◌, List, [], length, get_or, set, sym, refl, ap, ◌∙◌, subst, inl, inr, add-one, arith, eqb→eq, get_or-set_other, get_or-set_same}
-use Rattle.std.proofs.lemmas.List.{get_or_past}
+use Rattle.std.proofs.Common.{◌≡◌, ℕ, ◌+◌, ◌-◌, ◌/◌, ◌^◌, ◌<◌, ◌≤◌, Bool, true, false, ◌&&◌, ◌||◌, T, eqb, ltb, leb, ◌≢◌, List, length, get_or, set, refl, ap, ◌∙◌, inl, inr, add-one, arith, eqb→eq, get_or-set_other, get_or-set_same}
 use Rattle.std.proofs.lemmas.Bool.{cases_eq, cases_lt, eq-eqb, ne_eqb, le-leb, lt-leb, lt-ltb, le-ltb, leb-true, ltb-true}
 use Rattle.constraints.specs.Finite.{any}
-use Rattle.constraints.specs.Constraint.{System, var_count, variables, length_of, kind, left, offset, right, decode, of_kind, taken, Valid}
-use Rattle.constraints.specs.declared.constraint.Constraint.{Constraint}
+use Rattle.constraints.specs.Constraint.{System, var_count, variables, length_of, kind, left, offset, right, decode, of_kind, taken}
 use Rattle.constraints.specs.declared.constraint.Constraint.TheVariants.{Address as address}
 use Rattle.constraints.specs.Merge.{is_open, in_block}
-use Rattle.constraints.proofs.Finite.{T_true, or_cases, or_left, or_right, and_intro, and_left, and_right, any_intro, any_elim}
+use Rattle.constraints.proofs.Finite.{T_true, and_intro, and_left, and_right, any_intro, any_elim}
 use Rattle.constraints.proofs.Least.{block_below, taken_intro, taken_elim}
 use Rattle.constraints.proofs.Valid.{address_kind}
 use Rattle.flows.specs.Opens.{opens}

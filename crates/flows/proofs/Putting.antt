@@ -1,11 +1,9 @@
 -- Sources as columns, put bit by bit.
-use Rattle.std.proofs.Common.{◌≡◌, ℕ, zero, suc, ◌+◌, ◌-◌, ◌*◌, ◌/◌, ◌%◌, ◌^◌, ◌<◌, ◌≤◌, Bool, true, false, cond, ◌&&◌, ◌||◌, T, eqb, ltb, ◌≢◌, ◌⊎◌, List, length, get_or, sym, refl, ap, ◌∙◌, subst, ap₂, inl, inr, arith}
+use Rattle.std.proofs.Common.{◌≡◌, ℕ, zero, suc, ◌+◌, ◌-◌, ◌*◌, ◌/◌, ◌%◌, ◌^◌, ◌<◌, ◌≤◌, Bool, true, false, ◌&&◌, ◌||◌, eqb, ltb, ◌⊎◌, List, get_or, sym, refl, ap, ◌∙◌, subst, inl, inr, arith}
 use Rattle.std.proofs.lemmas.Bool.{cases_eq, cases_lt, eq-eqb, ne_eqb, lt-ltb, le-ltb}
 use Rattle.graphs.specs.Matrix.{bit_at, Put}
 use Rattle.constraints.specs.Constraint.{kind, left, offset, right, decode, of_kind}
-use Rattle.constraints.specs.declared.constraint.Constraint.{Constraint}
-use Rattle.constraints.specs.declared.constraint.Constraint.TheVariants.{Address as address, Copy as copy, Load as load, Store as store}
-use Rattle.constraints.specs.Merge.{copies, Source, object, row, loaded, same_source, brings}
+use Rattle.constraints.specs.Merge.{copies, object, row, loaded, same_source, brings}
 use Rattle.flows.proofs.Opening.{or_none}
 use Rattle.flows.specs.Columns.{source_at}
 

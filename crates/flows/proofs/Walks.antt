@@ -1,5 +1,5 @@
 -- Paths along copies are walks of the system.
-use Rattle.std.proofs.Common.{◌≡◌, ℕ, ◌<◌, Bool, true, T, List, arith}
+use Rattle.std.proofs.Common.{ℕ, ◌<◌, List, arith}
 use Rattle.graphs.specs.Matrix.{bit}
 use Rattle.graphs.specs.Paths.{Reaches, here as stop, step, Closure}
 use Rattle.graphs.proofs.Closing.{reaches_append}

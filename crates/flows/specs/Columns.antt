@@ -1,8 +1,8 @@
 -- Sources as columns of a bit matrix: 256 objects, 256 rows of open variables, 8 loads of each of 256 variables.
-use Rattle.std.specs.Prelude.{◌≡◌, ℕ, ◌-◌, ◌/◌, ◌%◌, ◌<◌, Bool, cond, ◌&&◌, ◌||◌, List, nat_lt}
+use Rattle.std.specs.Prelude.{◌≡◌, ℕ, ◌-◌, ◌/◌, ◌%◌, ◌<◌, cond, List, nat_lt}
 use Rattle.graphs.specs.Matrix.{bit, bit_at}
 use Rattle.constraints.specs.Constraint.{System, var_count}
-use Rattle.constraints.specs.Merge.{Source, object, row, loaded, is_open, same_source, stands, copy_reach}
+use Rattle.constraints.specs.Merge.{Source, object, row, loaded, stands, copy_reach}
 
 unfoldable pub source_at : ℕ → Source
 source_at c = cond (nat_lt c 256) (object c) (cond (nat_lt c 512) (row (c - 256)) (loaded ((c - 512) / 8) ((c - 512) % 8)))

@@ -1,5 +1,5 @@
 -- Copy edges of a list lead to variables below 256.
-use Rattle.std.specs.Prelude.{◌≡◌, ℕ, zero, suc, ◌<◌, true, slice_index_or, refl}
+use Rattle.std.specs.Prelude.{◌≡◌, ℕ, zero, suc, ◌<◌, true, slice_index_or}
 use Rattle.std.proofs.Common.{arith}
 use Rattle.constraints.specs.Constraint.{System, var_count, Valid, kind, left, offset, right, decode, of_kind}
 use Rattle.constraints.specs.declared.constraint.Constraint.TheVariants.{Copy as copy}

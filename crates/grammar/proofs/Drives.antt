@@ -6,7 +6,7 @@ use Rattle.grammar.specs.declared.item.Linkage.TheVariants.{Defined, External}
 use Rattle.grammar.specs.declared.item.Slot.{Slot}
 use Rattle.grammar.specs.declared.item.Slot.TheVariants.{Bare, Result as Returned, Parameter}
 use Rattle.lexemes.specs.Terminals.{Name, Terminal, sign}
-use Rattle.grammar.specs.Grammar.{Place, Callee, direct, through, Value, address, copy, load, returned, Item, variable, function, assign, store, invoke, slot, place, others, arguments, callee, call, value, item, unit, FewIn, Few, Legal}
+use Rattle.grammar.specs.Grammar.{Place, Callee, direct, through, Value, address, copy, load, returned, Item, variable, function, assign, store, invoke, slot, place, others, arguments, callee, value, item, unit, FewIn, Few, Legal}
 use Rattle.grammar.specs.Automaton.{Role, target, stored, source, copied, loaded, pointer, argument, State, start, ended, placed, named, slotted, valued, opened, called, Step, more, done, fault, is_sign, call_item, follow_arguments, step}
 use Rattle.grammar.proofs.Prefixes.{Terminals, pushed_is}
 

@@ -1,5 +1,5 @@
 -- The automaton reads the grammar: what it accepts is a unit, and where it stops no unit goes on. Assumes nothing.
-use Rattle.std.proofs.Common.{◌≡◌, ℕ, ◌+◌, ◌≤◌, Bool, true, false, cond, List, [], ◌∷◌, ◌++◌, map, length, Some, None, Ok, Err, Option, Result, sym, refl, ap, ◌∙◌, subst, append_assoc, append-nil, arith}
+use Rattle.std.proofs.Common.{◌≡◌, ℕ, ◌≤◌, Bool, true, false, cond, List, [], ◌∷◌, ◌++◌, map, length, Some, None, Ok, Err, Option, Result, sym, refl, ap, ◌∙◌, subst, append_assoc, append-nil, arith}
 use Rattle.std.specs.List.{AllByRecursion as All}
 use Rattle.std.proofs.ByRecursion.{All-append}
 use Rattle.lexemes.specs.Lexemes.{Lexical}
@@ -10,7 +10,7 @@ use Rattle.lexemes.specs.declared.lexeme.Word.TheVariants.{Var}
 use Rattle.grammar.specs.declared.item.Linkage.TheVariants.{External}
 use Rattle.grammar.specs.declared.item.Slot.TheVariants.{Parameter}
 use Rattle.lexemes.specs.Terminals.{Name, Terminal, sign, word, name, number, Piece, lexeme, stray}
-use Rattle.grammar.specs.Grammar.{Place, Callee, through, address, copy, load, Item, variable, function, assign, store, slot, place, arguments, callee, item, unit, Few, Legal, Admitted, Begins}
+use Rattle.grammar.specs.Grammar.{Place, Callee, through, address, copy, load, Item, variable, function, assign, store, place, arguments, callee, item, unit, Few, Legal, Admitted, Begins}
 use Rattle.grammar.specs.Faults.{Spells, none, one, Fault, missing, strange, wrong, later, Reading}
 use Rattle.grammar.specs.Automaton.{Role, target, stored, source, copied, loaded, pointer, argument, State, start, external, variable_of, function_of, counted, ended, placed, named, dotted, slotted, valued, addressed, opened, closed, called, Step, more, done, fault, bare, call_item, step}
 use Rattle.grammar.specs.Parse.{is_start, Statement, item_of, with, after, parse, items}

@@ -1,6 +1,6 @@
 -- Warshall's closure, round by round.
-use Rattle.std.proofs.Common.{◌≡◌, ℕ, ◌+◌, ◌<◌, ◌≤◌, Bool, true, false, ◌&&◌, ◌||◌, ltb, ◌≢◌, ◌⊎◌, List, Decides, sym, refl, ap, ◌∙◌, subst, ap₂, subst₂, inl, inr, ⊎_elim, arith}
-use Rattle.std.proofs.lemmas.Bool.{cases_eq, cases_lt, or_cases, or_left, or_right, and_parts, and_from, ltb-true, lt-ltb}
+use Rattle.std.proofs.Common.{◌≡◌, ℕ, ◌+◌, ◌<◌, ◌≤◌, Bool, true, false, ◌&&◌, ◌||◌, ltb, ◌≢◌, ◌⊎◌, List, Decides, sym, refl, ap, ◌∙◌, subst, inl, inr, ⊎_elim, arith}
+use Rattle.std.proofs.lemmas.Bool.{cases_eq, or_cases, or_left, or_right, and_parts, and_from, ltb-true, lt-ltb}
 use Rattle.graphs.specs.Matrix.{bit, row_bit, row_at, Put, Joined}
 use Rattle.graphs.proofs.Rows.{row_bit_lem}
 use Rattle.graphs.specs.Paths.{Reaches, here, step, drawn, Draws, Closure, Diagonal, Spread, Through}

@@ -1,8 +1,8 @@
 -- Positions have equal numbers exactly where their keys are the same; so rows that are equal.
-use Rattle.std.proofs.Common.{◌≡◌, ℕ, ◌/◌, ◌<◌, ◌≤◌, Bool, true, ◌⊎◌, List, length, get_or, sym, subst, inl, inr, arith}
+use Rattle.std.proofs.Common.{◌≡◌, ℕ, ◌/◌, ◌<◌, ◌≤◌, Bool, true, List, length, get_or, sym, subst, inl, inr, arith}
 use Rattle.std.proofs.lemmas.Slice.Eq.{bytes_eq-Decides}
 use Rattle.std.proofs.lemmas.Bool.{cases_lt}
-use Rattle.numbering.specs.Keys.{Equivalence, IsFirst, Numbered}
+use Rattle.numbering.specs.Keys.{Equivalence, Numbered}
 use Rattle.numbering.specs.Lists.{same_list}
 use Rattle.numbering.proofs.Lists.{lists_equivalence}
 use Rattle.graphs.specs.Matrix.{row_at}

@@ -1,14 +1,14 @@
 -- Components are equal rows of the closure.
-use Rattle.std.proofs.Common.{◌≡◌, ℕ, ◌+◌, ◌*◌, ◌/◌, ◌%◌, ◌^◌, ◌<◌, ◌≤◌, Bool, true, false, List, length, get_or, sym, refl, ap, ◌∙◌, subst, subst₂, ⊎_elim, arith}
+use Rattle.std.proofs.Common.{◌≡◌, ℕ, ◌^◌, ◌<◌, ◌≤◌, Bool, List, length, get_or, sym, refl, ◌∙◌, ⊎_elim, arith}
 use Rattle.std.specs.Str.{bytes_eq}
 use Rattle.std.proofs.lemmas.Slice.Eq.{bytes_eq-Decides}
 use Rattle.std.proofs.lemmas.Bool.{cases_lt}
 use Rattle.std.proofs.lemmas.Bool.Decides.{same_from_decides, Decides-like}
-use Rattle.numbering.specs.Keys.{IsFirst, Numbered}
+use Rattle.numbering.specs.Keys.{Numbered}
 use Rattle.graphs.specs.Matrix.{bit, row_at}
 use Rattle.graphs.proofs.Rows.{row_bits, row_ext}
-use Rattle.graphs.specs.Paths.{Reaches, here, Closure}
-use Rattle.graphs.specs.Components.{Mutual, Lowest, Components}
+use Rattle.graphs.specs.Paths.{here, Closure}
+use Rattle.graphs.specs.Components.{Mutual, Components}
 use Rattle.graphs.proofs.Closing.{reaches_append}
 
 pub mutual_sym : {edge : ℕ → ℕ → Bool} {u v : ℕ} → Mutual edge u v → Mutual edge v u

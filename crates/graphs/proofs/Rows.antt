@@ -1,9 +1,8 @@
 -- Rows are equal where their bits are.
-use Rattle.std.proofs.Common.{◌≡◌, ℕ, zero, suc, ◌+◌, ◌-◌, ◌*◌, ◌/◌, ◌%◌, ◌^◌, ◌<◌, ◌≤◌, Bool, true, false, eqb, ◌⊎◌, List, length, get_or, sym, refl, ap, ◌∙◌, ap₂, subst₂, inl, inr, ⊎_elim, pow-suc, div-one, arith}
-use Rattle.std.proofs.lemmas.Nat.{shr-shr, pow-add, div_below, mod_below, div-add-mod'}
+use Rattle.std.proofs.Common.{◌≡◌, ℕ, zero, suc, ◌+◌, ◌*◌, ◌/◌, ◌%◌, ◌^◌, ◌<◌, ◌≤◌, eqb, List, length, get_or, sym, ap, ◌∙◌, subst₂, pow-suc, div-one, arith}
+use Rattle.std.proofs.lemmas.Nat.{shr-shr, mod_below}
 use Rattle.std.proofs.lemmas.List.Edits.{length-between, get_or-between}
 use Rattle.std.proofs.lemmas.List.{ext_get_or}
-use Rattle.std.proofs.lemmas.Bool.{eqb-true, eq-eqb, cases_Bool, true≢false}
 use Rattle.std.proofs.lemmas.Bool.Decides.{nat_tests}
 use Rattle.graphs.specs.Matrix.{bit_of, bit_at, row_bit, row_at}
 

@@ -1,5 +1,5 @@
 -- A matrix of bits in words of 32 bits, w words to a row.
-use Rattle.std.specs.Prelude.{◌≡◌, ℕ, ◌+◌, ◌*◌, ◌/◌, ◌%◌, ◌^◌, ◌<◌, Bool, true, false, ◌||◌, ◌≢◌, List, ◌==◌, slice_index}
+use Rattle.std.specs.Prelude.{◌≡◌, ℕ, ◌+◌, ◌*◌, ◌/◌, ◌%◌, ◌^◌, ◌<◌, Bool, true, ◌||◌, ◌≢◌, List, ◌==◌, slice_index}
 use Rattle.std.specs.List.{between}
 
 -- bit k of a word

@@ -1,5 +1,5 @@
 -- Paths in graphs of up to 256 nodes, and what a bit matrix says of them.
-use Rattle.std.specs.Prelude.{◌≡◌, ℕ, ◌<◌, Bool, true, false, ◌&&◌, ◌||◌, ◌≢◌, List, Decides, nat_lt}
+use Rattle.std.specs.Prelude.{◌≡◌, ℕ, ◌<◌, Bool, true, ◌&&◌, ◌||◌, ◌≢◌, List, Decides, nat_lt}
 use Rattle.graphs.specs.Matrix.{bit, row_bit}
 
 -- u reaches v along edges; each node reaches itself

@@ -1,11 +1,11 @@
 -- Questions asked of two settled analysers with the same texts.
-use Rattle.std.proofs.Common.{◌≡◌, ℕ, zero, suc, ◌+◌, ◌<◌, true, List, [], ◌∷◌, length, get_or, take, sym, refl, ap, ◌∙◌, subst, subst₂, arith}
+use Rattle.std.proofs.Common.{◌≡◌, ℕ, zero, suc, ◌+◌, ◌<◌, true, List, length, take, sym, refl, ap, ◌∙◌, subst₂, arith}
 use Rattle.std.proofs.lemmas.List.{ext_get_or}
 use Rattle.engine.specs.Meanings.{Rule}
 use Rattle.books.specs.Books.{SameTexts, Book as Lawful}
 use Rattle.histories.specs.declared.call.Question.{Question}
 use Rattle.histories.specs.declared.call.Call.{Call}
-use Rattle.histories.specs.declared.call.Call.TheVariants.{Settle, Ask}
+use Rattle.histories.specs.declared.call.Call.TheVariants.{Ask}
 use Rattle.histories.specs.declared.call.Reply.{Reply}
 use Rattle.histories.specs.declared.call.Reply.TheVariants.{Settled}
 use Rattle.host_analyser.specs.Books.{Book, texts_of}

@@ -1,7 +1,7 @@
 -- A reply from the smallest solution is one about every solution, and the other way round.
 use Rattle.std.proofs.Common.{◌≡◌, ℕ, Bool, true, false, cond, T, ◌↔◌, List, Some, None, Ok, Err, Decides, MatchBool, Option, Result, sym, refl, ap, ◌∙◌, arith}
 use Rattle.units.specs.Words.{Cell}
-use Rattle.books.specs.Books.{standing, SameTexts, Book as Lawful}
+use Rattle.books.specs.Books.{SameTexts, Book as Lawful}
 use Rattle.books.specs.Replies.{place_among, name_in, has_object, shares, asked, points, alias}
 use Rattle.books.proofs.Replies.{known_is_within, same_points, same_alias}
 use Rattle.books.proofs.Solutions.{points_in_every, alias_in_every}
@@ -13,7 +13,7 @@ use Rattle.histories.specs.declared.call.Reply.TheVariants.{Answer, Refused}
 use Rattle.host_analyser.specs.declared.refusal.Refusal.{Refusal}
 use Rattle.host_analyser.specs.declared.refusal.Refusal.TheVariants.{NotSettled, NoPlace, Unknown}
 use Rattle.host_analyser.specs.Books.{Book, texts_of}
-use Rattle.histories.specs.Says.{Answers, QuestionSays, PointsSays, AliasSays, SaysWhether, answer_of}
+use Rattle.histories.specs.Says.{Answers, QuestionSays, PointsSays, AliasSays, answer_of}
 
 decided : (b : Bool) (P : Type 0) → T b ↔ P → Decides b P
 decided true P (there, back) = (λ e. there tt, λ p. refl)

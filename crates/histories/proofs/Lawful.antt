@@ -1,13 +1,12 @@
 -- Whatever was called, eight unit numbers have their places, and the texts that stand keep the rules.
-use Rattle.std.proofs.Common.{◌≡◌, ℕ, ◌<◌, Bool, true, false, cond, ltb, List, [], ◌∷◌, length, get_or, set, is_some, Some, None, Ok, Err, Option, Result, sym, refl, ap, ◌∙◌, arith}
+use Rattle.std.proofs.Common.{◌≡◌, ℕ, Bool, true, false, cond, ltb, List, [], ◌∷◌, length, get_or, set, is_some, Some, None, Ok, Err, Option, Result, refl, ◌∙◌, arith}
 use Rattle.std.proofs.lemmas.List.{length-set}
 use Rattle.std.proofs.lemmas.Bool.{ltb-false}
-use Rattle.lexemes.specs.declared.location.Location.{Location}
 use Rattle.grammar.specs.declared.unit.UnitFault.{UnitFault}
 use Rattle.grammar.specs.Units.{outcome, read}
 use Rattle.declarations.specs.Declarations.{fault_in}
 use Rattle.books.specs.Books.{Units, standing, Book as Lawful}
-use Rattle.books.specs.Loads.{Admitted, clash, too_many_variables, too_many_words, too_many_calls}
+use Rattle.books.specs.Loads.{Admitted, clash}
 use Rattle.books.proofs.Loads.{nothing_stands, load_keeps, unload_keeps}
 use Rattle.engine.specs.Meanings.{Rule}
 use Rattle.standing.specs.declared.refusal.UnitRefusal.{UnitRefusal}

@@ -1,5 +1,5 @@
 -- Histories: calls in their order, and what each is replied.
-use Rattle.std.specs.Prelude.{◌≡◌, ℕ, ◌+◌, ◌<◌, true, List, [], ◌∷◌, length, take, vec_items, slice_index_or}
+use Rattle.std.specs.Prelude.{◌≡◌, ℕ, ◌+◌, ◌<◌, true, List, length, take, vec_items, slice_index_or}
 use Rattle.engine.specs.Meanings.{Rule}
 use Rattle.books.specs.Books.{SameTexts}
 use Rattle.histories.specs.declared.call.Question.{Question}

@@ -1,5 +1,5 @@
 -- What each call of a history is replied, over the book before it.
-use Rattle.std.specs.Prelude.{◌≡◌, ℕ, Bool, T, ◌↔◌, List, [], ◌∷◌, ◌++◌, map, length, drop, Some, None, Ok, Err, vec_items, Decides, MatchBool, Option, Result, nat_lt}
+use Rattle.std.specs.Prelude.{◌≡◌, ℕ, Bool, T, ◌↔◌, List, ◌++◌, map, length, drop, Some, None, Ok, Err, vec_items, Decides, MatchBool, Option, Result, nat_lt}
 use Rattle.std.specs.List.{flat_map}
 use Rattle.units.specs.Words.{Cell}
 use Rattle.engine.specs.Meanings.{Rule}

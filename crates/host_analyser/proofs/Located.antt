@@ -1,12 +1,12 @@
 -- Places and names of a settled analyser are variables and objects of its engine's list.
-use Rattle.std.proofs.Common.{◌≡◌, ℕ, ◌<◌, Bool, true, false, cond, ◌&&◌, List, Some, None, Ok, Err, Option, Result, sym, refl, ap, ◌∙◌, subst, arith}
+use Rattle.std.proofs.Common.{◌≡◌, ℕ, ◌<◌, Bool, true, cond, ◌&&◌, List, Some, None, Ok, Err, Option, Result, sym, refl, ap, ◌∙◌, subst, arith}
 use Rattle.constraints.specs.Constraint.{length_of, var_count}
 use Rattle.constraints.specs.Finite.{any}
 use Rattle.constraints.specs.Least.{least}
 use Rattle.units.specs.Words.{Cell}
 use Rattle.engine.specs.Meanings.{Meaning}
-use Rattle.books.specs.Books.{table, row, Book as Lawful}
-use Rattle.books.specs.Tables.{Within, number, slot, blocks}
+use Rattle.books.specs.Books.{table}
+use Rattle.books.specs.Tables.{Within, number, slot}
 use Rattle.books.specs.Replies.{place_among, name_in, points, alias, asked, has_object, shares}
 use Rattle.books.proofs.Replies.{known_is_within}
 use Rattle.books.proofs.Tables.{number_below, length_at}

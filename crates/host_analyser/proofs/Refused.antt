@@ -1,16 +1,16 @@
 -- A refused load or unload, and a question, leave the analyser as it stood.
-use Rattle.std.proofs.Common.{◌≡◌, ℕ, Bool, List, map, set, Some, None, Ok, Err, Option, Result, sym, refl, ap, ◌∙◌, subst, arith}
+use Rattle.std.proofs.Common.{◌≡◌, ℕ, Bool, List, map, set, Some, None, Err, Option, Result, sym, ap, ◌∙◌, subst, arith}
 use Rattle.engine.specs.Meanings.{Meaning}
-use Rattle.books.specs.Books.{Units, standing, list_of, table, Book as Lawful}
+use Rattle.books.specs.Books.{standing, list_of, table, Book as Lawful}
 use Rattle.standing.specs.declared.refusal.UnitRefusal.{UnitRefusal}
 use Rattle.standing.specs.declared.units.StandingUnits.{StandingUnits}
 use Rattle.standing.specs.Loads.{load_refusal, unload_refusal, load_units, unload_units, unless}
-use Rattle.standing.specs.Lists.{list_in, owners_in}
+use Rattle.standing.specs.Lists.{owners_in}
 use Rattle.standing.specs.Refusals.{done_or}
 use Rattle.standing.specs.States.{units_of, LaidOut, owned_name, name_in_entry}
 use Rattle.host_analyser.specs.declared.analyser.Analyser.{Analyser}
 use Rattle.host_analyser.specs.Books.{Book, unsettled, load_book, unload_book}
-use Rattle.host_analyser.specs.States.{book_of, SettledRight}
+use Rattle.host_analyser.specs.States.{SettledRight}
 
 pub refused_reply : (o : Option UnitRefusal) (f : UnitRefusal) → ◌≡◌ {A = Result (Unit {0}) UnitRefusal} (Err f) (done_or o) → o ≡ Some f
 refused_reply None f e = absurd (let z : ◌≡◌ {A = ℕ} 0 1 = cc e in omega arith)

@@ -1,7 +1,7 @@
 -- What a settle that fails for room says, and what it leaves.
-use Rattle.std.proofs.Common.{◌≡◌, ℕ, ◌<◌, ◌≤◌, Bool, true, false, cond, List, length, Ok, Err, MatchBool, Result, sym, refl, ap, ◌∙◌, subst, subst₂, ⊎_elim, arith}
+use Rattle.std.proofs.Common.{◌≡◌, ℕ, ◌<◌, true, false, cond, List, Ok, Err, MatchBool, Result, sym, refl, ap, ◌∙◌, subst, subst₂, ⊎_elim, arith}
 use Rattle.std.proofs.lemmas.Bool.{cases_lt}
-use Rattle.constraints.specs.Constraint.{System, Valid}
+use Rattle.constraints.specs.Constraint.{System}
 use Rattle.constraints.specs.Rows.{total}
 use Rattle.constraints.specs.Least.{least}
 use Rattle.units.specs.declared.listing.ListedWord.{ListedWord}

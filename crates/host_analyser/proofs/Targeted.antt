@@ -1,6 +1,6 @@
 -- The target list of a pointer, as it is counted and written.
-use Rattle.std.proofs.Common.{◌≡◌, ℕ, zero, suc, ◌+◌, ◌<◌, ◌≤◌, Bool, true, false, cond, not, ltb, List, [], ◌∷◌, ◌++◌, map, length, get_or, take, drop, set, is_some, Some, None, Ok, Err, vec_items, MatchBool, Option, Result, sym, refl, ap, ◌∙◌, subst, ⊎_elim, append_assoc, arith}
-use Rattle.std.specs.List.{flat_map, AllByRecursion as All}
+use Rattle.std.proofs.Common.{◌≡◌, ℕ, ◌+◌, ◌<◌, ◌≤◌, true, cond, not, ltb, List, [], ◌∷◌, ◌++◌, map, length, get_or, drop, set, is_some, Some, None, Ok, Err, Option, Result, sym, refl, ap, ◌∙◌, subst, append_assoc, arith}
+use Rattle.std.specs.List.{AllByRecursion as All}
 use Rattle.std.proofs.lemmas.Bool.{lt-ltb, le-ltb}
 use Rattle.std.proofs.lemmas.List.{length_push}
 use Rattle.constraints.specs.Constraint.{System}
@@ -10,8 +10,8 @@ use Rattle.units.specs.Listing.{overlaid}
 use Rattle.declarations.specs.Declarations.{Entry}
 use Rattle.engine.specs.Meanings.{Meaning}
 use Rattle.books.specs.Books.{Units, standing, table, row, Book as Lawful}
-use Rattle.books.specs.Tables.{Within, number, blocks}
-use Rattle.books.specs.Targets.{targets, functions, line, pointer}
+use Rattle.books.specs.Tables.{Within, number}
+use Rattle.books.specs.Targets.{targets}
 use Rattle.books.proofs.Counts.{stood_there}
 use Rattle.books.proofs.Options.{some_same}
 use Rattle.books.proofs.Lists.{all_distinct, all_short}

@@ -1,5 +1,5 @@
 -- Questions about rows, object by object.
-use Rattle.std.specs.Prelude.{◌≡◌, ℕ, ◌<◌, ◌≤◌, Bool, true, ◌&&◌, T, Some, None, Option}
+use Rattle.std.specs.Prelude.{◌≡◌, ℕ, ◌<◌, ◌≤◌, Bool, true, T, Some, None, Option}
 use Rattle.constraints.specs.Constraint.{var_count}
 use Rattle.engine.specs.Meanings.{Meaning}
 

@@ -1,5 +1,5 @@
 -- Refusals: the number of each, and the values that it carries.
-use Rattle.std.specs.Prelude.{ℕ, List, [], ◌∷◌, ◌++◌}
+use Rattle.std.specs.Prelude.{ℕ, List, [], ◌∷◌}
 use Rattle.engine.specs.Faults.{refusal as engine-refusal}
 use Rattle.standing.specs.Refusals.{number_and_values as of-units}
 use Rattle.host_analyser.specs.declared.refusal.Refusal.{Refusal}

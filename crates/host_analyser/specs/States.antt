@@ -1,5 +1,5 @@
 -- The book that an analyser's state stands for, and what ties it to its engine.
-use Rattle.std.specs.Prelude.{◌≡◌, Bool, true, List, map}
+use Rattle.std.specs.Prelude.{◌≡◌, true, map}
 use Rattle.engine.specs.Meanings.{Meaning}
 use Rattle.books.specs.Books.{table, Book as Lawful}
 use Rattle.standing.specs.Lists.{list_in, owners_in}

@@ -1,13 +1,13 @@
 -- Marks, gathered variable by variable.
-use Rattle.std.proofs.Common.{◌≡◌, ℕ, zero, suc, ◌+◌, ◌*◌, ◌<◌, ◌≤◌, Bool, true, false, ◌&&◌, ◌||◌, List, sym, refl, ap, ◌∙◌, subst, ap₂, arith}
-use Rattle.graphs.specs.Matrix.{bit, bit_at, row_bit, row_at, Joined}
-use Rattle.graphs.proofs.Rows.{row_bit_lem, row_length}
+use Rattle.std.proofs.Common.{◌≡◌, ℕ, zero, suc, ◌+◌, ◌<◌, Bool, true, false, ◌&&◌, ◌||◌, List, sym, refl, ap, ◌∙◌, ap₂, arith}
+use Rattle.graphs.specs.Matrix.{bit, bit_at, row_at, Joined}
+use Rattle.graphs.proofs.Rows.{row_bit_lem}
 use Rattle.constraints.specs.Finite.{any}
 use Rattle.constraints.specs.Constraint.{System, Valid, var_count}
-use Rattle.constraints.specs.Merge.{stands, mark, copy_reach}
+use Rattle.constraints.specs.Merge.{mark, copy_reach}
 use Rattle.flows.proofs.Opening.{or_none, or_assoc, any_more, any_zero}
 use Rattle.flows.specs.Columns.{source_at, ReachBits, StandBits}
-use Rattle.hu.specs.Marks.{MarkBits, gathered}
+use Rattle.hu.specs.Marks.{gathered}
 
 and_true : (a : Bool) → a ≡ (a && true)
 and_true true = refl

@@ -1,7 +1,5 @@
 -- Equal numbers of rows are equal marks.
-use Rattle.std.proofs.Common.{◌≡◌, ℕ, zero, suc, ◌+◌, ◌-◌, ◌*◌, ◌/◌, ◌%◌, ◌^◌, ◌<◌, ◌≤◌, Bool, true, false, ◌&&◌, T, List, length, get_or, Decides, sym, refl, ap, ◌∙◌, subst, arith}
-use mathlib.Core.Bool.{beq}
-use Rattle.graphs.specs.Matrix.{bit_at}
+use Rattle.std.proofs.Common.{◌≡◌, ℕ, ◌+◌, ◌*◌, ◌/◌, ◌^◌, ◌<◌, T, List, length, get_or, sym, ◌∙◌, subst, arith}
 use Rattle.graphs.proofs.Rows.{row_bits, row_ext}
 use Rattle.graphs.specs.Keys.{SameRows}
 use Rattle.graphs.proofs.Numbers.{rows_number, number_rows}

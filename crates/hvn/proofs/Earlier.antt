@@ -1,5 +1,5 @@
 -- What a copy brings from another component stands earlier in the order.
-use Rattle.std.proofs.Common.{◌≡◌, ℕ, ◌<◌, ◌≤◌, Bool, true, false, ◌&&◌, T, ◌⊎◌, List, length, get_or, sym, refl, ap, ◌∙◌, subst, ap₂, subst₂, inl, inr, arith}
+use Rattle.std.proofs.Common.{◌≡◌, ℕ, ◌<◌, true, false, ◌&&◌, List, get_or, sym, ap, ◌∙◌, subst, ap₂, inl, inr}
 use Rattle.std.proofs.lemmas.Bool.{cases_order, both_ways}
 use Rattle.graphs.specs.Order.{Above, Arranged}
 use Rattle.constraints.specs.Constraint.{System, var_count, Valid, Has}
@@ -7,7 +7,7 @@ use Rattle.constraints.specs.declared.constraint.Constraint.TheVariants.{Copy as
 use Rattle.constraints.specs.Graph.{Walk, here, along}
 use Rattle.constraints.specs.Merge.{copy_edge, copy_reach}
 use Rattle.constraints.specs.Value.{component}
-use Rattle.constraints.proofs.Finite.{T_true, and_intro, and_left, and_right}
+use Rattle.constraints.proofs.Finite.{T_true, and_intro, and_left}
 use Rattle.constraints.proofs.Graph.{reaches_walk, walk_reaches, walk_join}
 use Rattle.constraints.proofs.Merge.{edge_intro}
 use Rattle.flows.proofs.Scans.{T-from}

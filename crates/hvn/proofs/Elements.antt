@@ -1,18 +1,17 @@
 -- The numbers that words bring are those of the elements of a component's set.
-use Rattle.std.proofs.Common.{◌≡◌, ℕ, zero, suc, ◌+◌, ◌-◌, ◌*◌, ◌/◌, ◌%◌, ◌^◌, ◌<◌, ◌≤◌, Bool, true, false, cond, not, ◌&&◌, ◌||◌, T, eqb, ◌≢◌, ◌⊎◌, List, length, get_or, sym, refl, ap, ◌∙◌, subst, ap₂, subst₂, inl, inr, arith}
-use Rattle.std.proofs.lemmas.Bool.{cases_lt, cases_eq, cases_Bool, eqb-true, eq-eqb, ne_eqb, or_cases, or_left, or_right, both_ways}
+use Rattle.std.proofs.Common.{◌≡◌, ℕ, zero, suc, ◌+◌, ◌*◌, ◌<◌, ◌≤◌, Bool, true, false, cond, not, ◌&&◌, ◌||◌, eqb, ◌⊎◌, List, length, get_or, sym, refl, ap, ◌∙◌, subst, subst₂, inl, inr, arith}
+use Rattle.std.proofs.lemmas.Bool.{eqb-true, eq-eqb, ne_eqb, or_cases, or_left, or_right, both_ways}
 use Rattle.graphs.specs.Order.{Arranged}
 use Rattle.constraints.specs.Finite.{any}
 use Rattle.constraints.specs.Constraint.{System, var_count, Valid, Has, constraint, decode, of_kind, kind, left, offset, right}
-use Rattle.constraints.specs.declared.constraint.Constraint.{Constraint}
-use Rattle.constraints.specs.declared.constraint.Constraint.TheVariants.{Address as address, Copy as copy, Load as load, Store as store}
-use Rattle.constraints.specs.Merge.{Source, object, row, loaded, copy_reach, copy_edge}
-use Rattle.constraints.specs.Value.{Value, Values, nothing, source, set, none, add, put, element, elements, same_value, component, value}
-use Rattle.constraints.proofs.Value.{Among, same_value_refl, same_value_trans}
+use Rattle.constraints.specs.declared.constraint.Constraint.TheVariants.{Copy as copy}
+use Rattle.constraints.specs.Merge.{object, loaded, copy_reach, copy_edge}
+use Rattle.constraints.specs.Value.{Value, Values, nothing, source, set, add, put, element, elements, component, value}
+use Rattle.constraints.proofs.Value.{same_value_refl, same_value_trans}
 use Rattle.constraints.proofs.Coded.{Bits}
-use Rattle.flows.specs.Columns.{source_at, ReachBits}
-use Rattle.flows.proofs.Putting.{at_object, at_row, at_loaded}
-use Rattle.hvn.specs.Columns.{member, copied, kind_number, element_number, brought}
+use Rattle.flows.specs.Columns.{ReachBits}
+use Rattle.flows.proofs.Putting.{at_object, at_loaded}
+use Rattle.hvn.specs.Columns.{kind_number, element_number, brought}
 use Rattle.hvn.proofs.Positions.{Coded, Told, void, sourced, grouped, Stage, group_set, nothing_set}
 use Rattle.hvn.proofs.Earlier.{member_is, earlier}
 

@@ -1,10 +1,9 @@
 -- Equal numbers are equal values, position by position.
-use Rattle.std.proofs.Common.{◌≡◌, ℕ, zero, suc, ◌+◌, ◌-◌, ◌*◌, ◌/◌, ◌%◌, ◌<◌, ◌≤◌, Bool, true, false, cond, ◌&&◌, ◌||◌, T, eqb, ◌≢◌, ◌⊎◌, sym, refl, ap, ◌∙◌, subst, subst₂, inl, inr, arith, eqb→eq}
+use Rattle.std.proofs.Common.{◌≡◌, ℕ, zero, suc, ◌+◌, ◌-◌, ◌*◌, ◌/◌, ◌%◌, ◌<◌, ◌≤◌, Bool, true, T, ◌≢◌, ◌⊎◌, sym, refl, ap, ◌∙◌, subst, subst₂, inl, inr, arith, eqb→eq}
 use Rattle.std.proofs.lemmas.Bool.{cases_lt, cases_eq, cases_Bool, cases_order}
 use Rattle.constraints.specs.Merge.{Source, same_source}
-use Rattle.constraints.specs.Value.{Value, Values, nothing, source, set, none, add, each_value, same_value, each_in, among, collect}
+use Rattle.constraints.specs.Value.{Value, Values, nothing, source, set, none, add, each_value, same_value, each_in, collect}
 use Rattle.constraints.proofs.Finite.{T_true, and_left, and_right}
-use Rattle.constraints.proofs.Merge.{source_refl}
 use Rattle.constraints.proofs.Value.{Among, each_element, same_value_refl, same_value_sym, same_value_trans}
 use Rattle.constraints.proofs.Collect.{Alike, alike_collect}
 use Rattle.constraints.proofs.Coded.{Bits, rows_alike, alike_there, alike_back, no_bit, one_bit}

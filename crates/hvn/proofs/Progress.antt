@@ -1,22 +1,22 @@
 -- The numbers along the order, one position more.
-use Rattle.std.proofs.Common.{◌≡◌, ℕ, zero, suc, ◌+◌, ◌-◌, ◌*◌, ◌<◌, ◌≤◌, Bool, true, false, cond, ◌&&◌, ◌||◌, T, eqb, ltb, ◌≢◌, ◌⊎◌, List, length, get_or, set as write, Decides, sym, refl, ap, ◌∙◌, subst, ap₂, subst₂, inl, inr, arith}
+use Rattle.std.proofs.Common.{◌≡◌, ℕ, zero, suc, ◌+◌, ◌*◌, ◌<◌, ◌≤◌, Bool, true, false, cond, ◌&&◌, ◌||◌, T, eqb, ◌≢◌, List, length, get_or, set as write, Decides, sym, ap, ◌∙◌, subst, ap₂, subst₂, inl, inr, arith}
 use Rattle.std.proofs.lemmas.List.{get_or-set_same, get_or-set_other}
-use Rattle.std.proofs.lemmas.Bool.{cases_lt, cases_eq, cases_Bool, cases_order, and_parts, and_from, eqb-true, ne_eqb, both_ways}
+use Rattle.std.proofs.lemmas.Bool.{cases_lt, cases_eq, cases_Bool, eqb-true, both_ways}
 use Rattle.graphs.specs.Order.{Arranged}
 use Rattle.graphs.specs.Matrix.{bit_at, Blank}
 use Rattle.graphs.proofs.Words.{blank_bit}
 use Rattle.constraints.specs.Finite.{any, lowest}
 use Rattle.constraints.specs.Constraint.{System, var_count, Valid, kind, left, offset, right}
 use Rattle.constraints.specs.Merge.{is_open, row, copy_reach, copy_edge}
-use Rattle.constraints.specs.Value.{Value, Values, source, collect, elements, open_member, component_value, component, value, same_value, value_class}
+use Rattle.constraints.specs.Value.{Value, Values, source, collect, elements, open_member, component_value, component, value, value_class}
 use Rattle.constraints.proofs.Finite.{T_true, any_intro, any_elim, lowest_passes, lowest_first}
-use Rattle.constraints.proofs.Value.{value_law, same_value_refl}
+use Rattle.constraints.proofs.Value.{value_law}
 use Rattle.constraints.proofs.Coded.{Bits}
 use Rattle.layers.specs.Classes.{Numbers}
 use Rattle.flows.proofs.Scans.{T-from}
-use Rattle.flows.specs.Columns.{source_at, ReachBits}
+use Rattle.flows.specs.Columns.{ReachBits}
 use Rattle.flows.proofs.Putting.{at_row}
-use Rattle.hvn.specs.Columns.{in_row, SameRow, Settled, empty, lone, crowd, member, copied, kind_number, element_number, brought, open_in, FirstOf, NoneOf, SmallNumbers, RowDone, by_open, by_row}
+use Rattle.hvn.specs.Columns.{in_row, Settled, empty, lone, crowd, member, kind_number, element_number, brought, open_in, FirstOf, NoneOf, SmallNumbers, RowDone, by_open, by_row}
 use Rattle.hvn.proofs.Positions.{Coded, Done, opened, plain, Stage, stage_all}
 use Rattle.hvn.proofs.Rowing.{row_in, row_out, in_parts, same_row}
 use Rattle.hvn.proofs.Earlier.{member_is}

@@ -1,18 +1,16 @@
 -- Rows of 2,816 columns, and what a row comes to.
-use Rattle.std.proofs.Common.{◌≡◌, ℕ, zero, suc, ◌+◌, ◌-◌, ◌*◌, ◌/◌, ◌^◌, ◌<◌, ◌≤◌, Bool, true, false, cond, ◌&&◌, ◌||◌, T, eqb, ltb, ◌≢◌, ◌⊎◌, List, length, get_or, take, sym, refl, ap, ◌∙◌, subst, ap₂, inl, inr, arith}
-use Rattle.std.specs.Str.{bytes_eq}
+use Rattle.std.proofs.Common.{◌≡◌, ℕ, ◌+◌, ◌*◌, ◌^◌, ◌<◌, ◌≤◌, Bool, true, false, ◌||◌, eqb, ltb, List, length, get_or, take, sym, refl, ap, ◌∙◌, inl, inr, arith}
 use Rattle.std.proofs.lemmas.List.{length-take-le, get_or-take, ext_get_or}
-use Rattle.std.proofs.lemmas.Bool.{cases_lt, and_parts, and_from, lt-ltb, le-ltb, ltb-true}
+use Rattle.std.proofs.lemmas.Bool.{cases_lt, and_parts, lt-ltb, le-ltb, ltb-true}
 use Rattle.std.proofs.lemmas.Slice.Eq.{bytes_eq-Decides}
-use Rattle.numbering.specs.Keys.{IsFirst}
 use Rattle.graphs.specs.Keys.{SameRows}
-use Rattle.graphs.specs.Matrix.{bit_at, row_at, row_bit}
+use Rattle.graphs.specs.Matrix.{bit_at, row_at}
 use Rattle.graphs.proofs.Rows.{row_bit_lem, row_length, row_word, row_bits, row_ext}
 use Rattle.flows.proofs.Opening.{or_none, any_more, any_zero}
 use Rattle.flows.proofs.Opening.{or_assoc}
 use Rattle.constraints.specs.Finite.{any}
 use Rattle.hvn.specs.Shapes.{NoBit, OneBit, TwoBits}
-use Rattle.hvn.specs.Columns.{in_row, SameRow, Settled, empty, lone, crowd, brought, element_number}
+use Rattle.hvn.specs.Columns.{in_row, Settled, empty, lone, crowd, brought, element_number}
 
 pub row_in : (rows : List ℕ) (k c : ℕ) → c < 2816 → in_row rows k c ≡ bit_at 88 rows k c
 row_in rows k c h = rw (lt-ltb c 2816 h)

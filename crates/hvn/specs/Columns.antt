@@ -1,5 +1,5 @@
 -- Values as numbers: 0 for nothing, 1 + c for column c. The columns are 2,560 sources, then 256 positions of sets.
-use Rattle.std.specs.Prelude.{◌≡◌, ℕ, zero, suc, ◌+◌, ◌*◌, ◌<◌, ◌≤◌, Bool, true, false, cond, not, ◌&&◌, ◌||◌, ◌≢◌, ◌⊎◌, List, length, nat_eq, nat_lt, slice_index, slice_index_or}
+use Rattle.std.specs.Prelude.{◌≡◌, ℕ, zero, suc, ◌+◌, ◌*◌, ◌<◌, ◌≤◌, Bool, true, false, cond, ◌&&◌, ◌||◌, ◌≢◌, List, length, nat_eq, nat_lt, slice_index, slice_index_or}
 use Rattle.graphs.specs.Matrix.{bit, bit_at}
 use Rattle.constraints.specs.Finite.{any}
 use Rattle.constraints.specs.Constraint.{kind, left, offset, right}

@@ -1,5 +1,5 @@
 -- How many bits of a row are set: none, one or more.
-use Rattle.std.specs.Prelude.{◌≡◌, ℕ, ◌*◌, ◌<◌, true, ◌≢◌, List, length}
+use Rattle.std.specs.Prelude.{◌≡◌, ℕ, ◌<◌, true, ◌≢◌, List}
 use Rattle.graphs.specs.Matrix.{row_bit}
 use Rattle.hvn.specs.declared.shape.Shape.{Shape}
 use Rattle.hvn.specs.declared.shape.Shape.TheVariants.{Empty, One, Many}

@@ -1,11 +1,11 @@
 -- A layer answers as the engine below does of representatives, and tells its faults.
-use Rattle.std.proofs.Common.{◌≡◌, ℕ, ◌<◌, ◌≤◌, Bool, true, false, T, ltb, List, length, get_or, take, Ok, Err, sym, refl, ap, ◌∙◌, subst, arith}
+use Rattle.std.proofs.Common.{◌≡◌, ℕ, ◌<◌, Bool, true, false, T, ltb, List, length, get_or, Err, sym, ap, ◌∙◌, subst}
 use Rattle.std.proofs.lemmas.Bool.{lt-ltb, false≢true}
 use Rattle.constraints.specs.Constraint.{System, Valid, var_count}
 use Rattle.constraints.specs.Least.{least}
 use Rattle.constraints.specs.Theorems.{LayerIsRight}
 use Rattle.constraints.proofs.Valid.{own_position_is}
-use Rattle.engine.specs.Meanings.{Rule, Meaning, gathering, Settles, Overflows, holds_answer, next_answer, size_answer}
+use Rattle.engine.specs.Meanings.{Meaning, gathering, Settles, holds_answer, next_answer, size_answer}
 use Rattle.engine.specs.declared.fault.EngineFault.{EngineFault}
 use Rattle.engine.specs.declared.fault.EngineFault.TheVariants.{Settled, Rejected, NoRoom, Gathering, Outside}
 use Rattle.engine.specs.declared.fault.Overflow.{Overflow}

@@ -1,7 +1,7 @@
 -- The representative of a variable, from flags and class numbers.
-use Rattle.std.proofs.Common.{◌≡◌, ℕ, zero, suc, ◌+◌, ◌<◌, ◌≤◌, Bool, true, false, cond, not, ◌&&◌, T, List, get_or, sym, refl, ap, ◌∙◌, subst, arith}
+use Rattle.std.proofs.Common.{◌≡◌, ℕ, suc, ◌<◌, Bool, true, false, not, ◌&&◌, T, List, get_or, sym, ◌∙◌, arith}
 use Rattle.std.proofs.lemmas.Bool.{and_from, and_parts, not-true, not_from_false}
-use Rattle.constraints.specs.Finite.{any, lowest}
+use Rattle.constraints.specs.Finite.{any}
 use Rattle.constraints.specs.Constraint.{System, var_count}
 use Rattle.constraints.specs.Merge.{is_open, representative, open_peer, plain_peer}
 use Rattle.constraints.proofs.Finite.{T_true, any_intro}

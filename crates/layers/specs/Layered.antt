@@ -1,5 +1,5 @@
 -- What a merging layer means over the engine below.
-use Rattle.std.specs.Prelude.{◌≡◌, ℕ, ◌+◌, min, Bool, List, slice_index}
+use Rattle.std.specs.Prelude.{ℕ, ◌+◌, min, Bool, slice_index}
 use Rattle.std.proofs.Common.{arith}
 use Rattle.constraints.specs.Constraint.{System}
 use Rattle.constraints.specs.Merge.{representative}

@@ -1,6 +1,5 @@
 -- Keys that are lists: sameness is an equivalence, and same keys hash alike; the hash, one number further.
 use Rattle.std.proofs.Common.{◌≡◌, ℕ, ◌+◌, ◌<◌, List, length, get_or, take, sym, refl, ap, ◌∙◌}
-use Rattle.std.specs.Str.{bytes_eq}
 use Rattle.std.proofs.lemmas.Slice.Eq.{bytes_eq-Decides}
 use Rattle.std.proofs.lemmas.List.Sums.{fold_more}
 use Rattle.numbering.specs.Keys.{Equivalence, HashAlike}

@@ -1,6 +1,6 @@
 -- A reply by cases is one value.
-use Rattle.std.proofs.Common.{◌≡◌, ℕ, ◌<◌, ◌≤◌, Bool, true, false, cond, ◌&&◌, T, leb, Some, None, Option, sym, refl, ap, ◌∙◌, ⊎_elim, arith}
-use Rattle.std.proofs.lemmas.Bool.{cases_lt, cases_eq, le-leb, leb-true, and_from, and_parts}
+use Rattle.std.proofs.Common.{◌≡◌, ℕ, ◌≤◌, Bool, true, false, cond, ◌&&◌, T, leb, Some, None, Option, sym, refl, ap, ⊎_elim, arith}
+use Rattle.std.proofs.lemmas.Bool.{cases_lt, le-leb, leb-true, and_from, and_parts}
 use Rattle.constraints.specs.Finite.{any, lowest}
 use Rattle.constraints.proofs.Finite.{T_true, any_intro, any_elim, lowest_passes, lowest_first}
 use Rattle.rows.specs.Stores.{Smallest, Found, next_of}

@@ -1,5 +1,5 @@
 -- The reply to an operation and the pairs after it, by the room and the pairs before it.
-use Rattle.std.specs.Prelude.{ℕ, Bool, cond, nat_lt}
+use Rattle.std.specs.Prelude.{ℕ, cond, nat_lt}
 use Rattle.constraints.specs.Finite.{count}
 use Rattle.constraints.specs.Rows.{Rows, empty, with_pair, total}
 use Rattle.rows.specs.Stores.{in_range, next_of}

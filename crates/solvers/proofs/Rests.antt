@@ -1,5 +1,5 @@
 -- Rows that grew from the smallest solution of the first i words, and meet one word more, are the next smallest solution.
-use Rattle.std.proofs.Common.{◌≡◌, ℕ, ◌+◌, ◌<◌, ◌≤◌, false, not, T, Ok, Err, Result, sym, subst, arith}
+use Rattle.std.proofs.Common.{◌≡◌, ℕ, ◌+◌, ◌≤◌, not, T, Ok, Err, Result, sym, subst, arith}
 use Rattle.constraints.specs.Rows.{Rows, ◌⊑◌, total}
 use Rattle.constraints.specs.Constraint.{System, Solves, first}
 use Rattle.constraints.specs.Least.{least}

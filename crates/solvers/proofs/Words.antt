@@ -1,17 +1,14 @@
 -- From the words taken in to the whole list.
-use Rattle.std.proofs.Common.{◌≡◌, ℕ, ◌+◌, ◌<◌, ◌≤◌, false, T, length, take, Err, sym, ap, ◌∙◌, subst, not-suc-le-zero, arith}
-use Rattle.constraints.specs.Rows.{Rows, ◌⊑◌, empty, total}
-use Rattle.constraints.specs.Constraint.{System, Has, Meets, Closed, first}
-use Rattle.constraints.specs.declared.constraint.Constraint.{Constraint}
+use Rattle.std.proofs.Common.{◌≡◌, ℕ, ◌+◌, ◌<◌, ◌≤◌, length, Err, sym, not-suc-le-zero, arith}
+use Rattle.constraints.specs.Rows.{Rows, empty, total}
+use Rattle.constraints.specs.Constraint.{System, Closed, first}
 use Rattle.constraints.specs.Least.{least}
-use Rattle.constraints.specs.Fits.{position}
 use Rattle.constraints.proofs.Rows.{rows_equal, total_mono}
 use Rattle.constraints.proofs.Least.{least_within, first_within}
-use Rattle.constraints.proofs.Solver.{first_all, position_is}
+use Rattle.constraints.proofs.Solver.{position_is}
 use Rattle.rows.specs.declared.StoreFault.{StoreFault}
 use Rattle.rows.specs.declared.StoreFault.TheVariants.{Outside, Full}
 use Rattle.rows.proofs.Counts.{total_empty}
-use Rattle.engine.specs.declared.fault.Stopped.{Stopped}
 use Rattle.solvers.specs.Taking.{Took, Overfull}
 
 -- no words, no pairs

@@ -5,7 +5,7 @@ use Rattle.std.proofs.lemmas.Bool.{lt-ltb, eqb-true, eqb-false, eq-eqb, ne_eqb}
 use Rattle.declarations.specs.Declarations.{Mention, declares, uses, calls, kept, mentions_in, declarations_in}
 use Rattle.names.specs.declared.record.Note.{Note}
 use Rattle.books.specs.Members.{any_of}
-use Rattle.books.specs.Books.{table, is_defined, defining, Book}
+use Rattle.books.specs.Books.{is_defined, defining, Book}
 use Rattle.books.specs.Loads.{clashes, first_at, clash}
 use Rattle.books.proofs.Members.{none_intro}
 use Rattle.books.proofs.Counts.{clash_by_counts}

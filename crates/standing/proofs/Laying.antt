@@ -6,7 +6,6 @@ use Rattle.std.proofs.lemmas.List.{append-nil}
 use Rattle.std.proofs.lemmas.Bool.{cond-true, cond-false}
 use Rattle.constraints.specs.Constraint.{variables}
 use Rattle.lexemes.specs.Texts.{name_in_text}
-use Rattle.grammar.specs.Units.{read}
 use Rattle.declarations.specs.declared.cursor.Declaration.{Declaration}
 use Rattle.declarations.specs.Declarations.{Entry, size_of, Mention, declares, uses, calls, entry, declared_in, declarations_in}
 use Rattle.declarations.specs.Meanings.{declaration_in}

@@ -15,7 +15,7 @@ use Rattle.names.specs.declared.record.Note.{Note}
 use Rattle.books.specs.Members.{◌∈◌}
 use Rattle.books.specs.Tables.{first_of, blocks}
 use Rattle.books.specs.Books.{Units, standing, table, words, list_of, Book}
-use Rattle.books.specs.Listing.{listing_from, first_in, listed_words, word_of}
+use Rattle.books.specs.Listing.{listing_from, listed_words, word_of}
 use Rattle.books.proofs.Embedding.{Lawful}
 use Rattle.books.proofs.Lists.{standing_lawful}
 use Rattle.books.proofs.Listing.{listing_words}

@@ -1,12 +1,11 @@
 -- Soundness out of its ghost field.
-use Rattle.std.proofs.Common.{◌≡◌, ℕ, zero, suc, true, false, List, [], ◌∷◌, get_or, replicate, is_ok, Some, None, Ok, Err, Option, Result, sym, refl, ap, ◌∙◌, inl, inr, arith}
+use Rattle.std.proofs.Common.{◌≡◌, ℕ, true, false, List, [], replicate, is_ok, Some, None, Ok, Err, Option, Result, sym, refl, ap, ◌∙◌, arith}
 use mathlib.Core.HLevel.{Discrete, hedberg}
 use mathlib.Core.Logic.{∥∥₁_elim}
 use native.Mathlib.Decide.{ℕ_discrete}
 use std.HLevel.{Π_prop}
 use denote.Struct.Props.{props}
 use Rattle.grammar.specs.declared.unit.UnitFault.{UnitFault}
-use Rattle.books.specs.Members.{◌∈◌}
 use Rattle.declarations.specs.declared.check.DeclarationMemory.{DeclarationMemory}
 use Rattle.names.specs.declared.record.NameRecord.{NameRecord}
 use Rattle.names.specs.declared.table.NameTable.{NameTable}
@@ -23,7 +22,7 @@ use Rattle.standing.specs.Firsts.{first_in, laid_first}
 use Rattle.standing.specs.Loads.{unless}
 use Rattle.standing.specs.Refusals.{done_or}
 use Rattle.standing.specs.States.{units_of, LaidOut}
-use Rattle.standing.specs.Knowledge.{slot_text, texts_in, size_in, units_in, defined_in, Sound, Sound-prop, knows-prop}
+use Rattle.standing.specs.Knowledge.{slot_text, size_in, units_in, defined_in, Sound, Sound-prop, knows-prop}
 
 option_discrete : Discrete (Option ℕ)
 option_discrete None None = yes refl

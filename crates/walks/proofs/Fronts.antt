@@ -1,5 +1,5 @@
 -- The first words of a list.
-use Rattle.std.proofs.Common.{◌≡◌, ℕ, ◌+◌, ◌<◌, ◌≤◌, length, get_or, take, sym, refl, ap, ◌∙◌, arith}
+use Rattle.std.proofs.Common.{◌≡◌, ℕ, ◌<◌, ◌≤◌, length, sym, refl, ap, ◌∙◌, arith}
 use Rattle.std.proofs.lemmas.List.{get_or-take, length-take}
 use Rattle.constraints.specs.Rows.{Rows, pairs}
 use Rattle.constraints.specs.Constraint.{System, Valid, var_count, decode, constraint, left_of, Has, Meets, Solves, first}

@@ -1,10 +1,9 @@
 -- A put of a new pair is a walk of one step.
-use Rattle.std.proofs.Common.{◌≡◌, ℕ, ◌+◌, ◌<◌, ◌≤◌, false, ◌&&◌, ◌||◌, T, eqb, ◌⊎◌, Ok, Result, sym, refl, subst, inl, inr, ⊎_elim, arith, eqb→eq}
+use Rattle.std.proofs.Common.{◌≡◌, ℕ, ◌<◌, false, ◌&&◌, T, eqb, ◌⊎◌, Ok, inl, inr, ⊎_elim, arith, eqb→eq}
 use lib.Dec.{eqb_refl}
 use Rattle.constraints.specs.Rows.{Rows, ◌⊑◌, with_pair, total}
 use Rattle.constraints.proofs.Finite.{or_cases, or_left, or_right, and_intro, and_left, and_right}
 use Rattle.rows.proofs.Counts.{total_with}
-use Rattle.rows.specs.declared.StoreFault.{StoreFault}
 use Rattle.walks.specs.Grown.{Grown}
 
 module _ (P : Rows) (v o : ℕ) where

@@ -1,5 +1,5 @@
 -- A rule while rows grow.
-use Rattle.std.proofs.Common.{ℕ, ◌+◌, ◌<◌, List}
+use Rattle.std.proofs.Common.{ℕ, ◌+◌, List}
 use Rattle.constraints.specs.Rows.{Relation}
 use Rattle.constraints.specs.Constraint.{Meets}
 use Rattle.constraints.specs.declared.constraint.Constraint.{Constraint}

@@ -1,5 +1,5 @@
 -- A walk over row q by `next`, while the rows P grow to Q: what holds of the objects of P below i.
-use Rattle.std.proofs.Common.{◌≡◌, ℕ, ◌+◌, ◌<◌, ◌≤◌, Bool, true, false, T, ◌⊎◌, Some, None, sym, subst, inl, inr, ⊎_elim, arith}
+use Rattle.std.proofs.Common.{◌≡◌, ℕ, ◌+◌, ◌<◌, ◌≤◌, Bool, true, T, Some, None, sym, subst, ⊎_elim, arith}
 use Rattle.std.proofs.lemmas.Bool.{both_ways, cases_lt, cases_eq}
 use Rattle.constraints.specs.Rows.{Rows, ◌⊑◌}
 use Rattle.constraints.proofs.Finite.{T_true}

@@ -1,13 +1,13 @@
 -- A turn of the loop: one word is walked, and the words that read a row which grew wait.
-use Rattle.std.proofs.Common.{◌≡◌, ℕ, ◌+◌, ◌-◌, ◌*◌, ◌<◌, ◌≤◌, Bool, true, false, not, ◌&&◌, ◌||◌, T, eqb, ltb, leb, ◌⊎◌, List, length, sym, refl, ap, ◌∙◌, inl, inr, ⊎_elim, arith}
+use Rattle.std.proofs.Common.{◌≡◌, ℕ, ◌+◌, ◌-◌, ◌*◌, ◌<◌, Bool, true, not, ◌&&◌, ◌||◌, eqb, ltb, leb, ◌⊎◌, List, length, sym, refl, ap, ◌∙◌, inl, inr, ⊎_elim, arith}
 use Rattle.std.proofs.lemmas.Bool.{eq-eqb, ne_eqb, or_left, or_right, and_from, and_parts, le-leb, lt-ltb, cases_eq, eqb-true, or_cases, both_ways}
 use Rattle.constraints.specs.Finite.{count}
-use Rattle.constraints.specs.Rows.{Rows, ◌⊑◌, pairs, total}
+use Rattle.constraints.specs.Rows.{Rows, pairs, total}
 use Rattle.constraints.specs.Constraint.{System, length_of, constraint, Meets, Solves, first}
 use Rattle.constraints.specs.declared.constraint.Constraint.{Constraint}
 use Rattle.constraints.specs.declared.constraint.Constraint.TheVariants.{Address as address, Copy as copy, Load as load, Store as store}
 use Rattle.constraints.specs.Least.{least}
-use Rattle.constraints.proofs.Finite.{T_true, count_bound, count_one_more}
+use Rattle.constraints.proofs.Finite.{count_bound, count_one_more}
 use Rattle.constraints.proofs.Rows.{total_mono, total_bound}
 use Rattle.constraints.proofs.Least.{least_solves}
 use Rattle.walks.specs.Rules.{Rule}

@@ -1,8 +1,8 @@
 -- Notes follow one another, and a put with its marks is one.
-use Rattle.std.specs.Prelude.{◌≡◌, ℕ, ◌<◌, ◌≤◌, Bool, true, false, T, ◌⊎◌, refl}
-use Rattle.std.proofs.Common.{sym, ap, ◌∙◌, inl, inr, ⊎_elim, arith}
+use Rattle.std.specs.Prelude.{◌≡◌, ℕ, ◌<◌, Bool, false, refl}
+use Rattle.std.proofs.Common.{◌∙◌, inl, inr, ⊎_elim, arith}
 use Rattle.std.proofs.lemmas.Bool.{cases_Bool, both_ways}
-use Rattle.constraints.specs.Rows.{Rows, ◌⊑◌, with_pair, total}
+use Rattle.constraints.specs.Rows.{Rows, with_pair}
 use Rattle.constraints.specs.Constraint.{System, constraint}
 use Rattle.constraints.proofs.Rows.{total_mono}
 use Rattle.rows.proofs.Counts.{total_with}

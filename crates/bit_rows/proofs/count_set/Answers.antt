@@ -1,4 +1,4 @@
-use Rattle.std.proofs.Common.{◌≡◌, sym, arith}
+use Rattle.std.proofs.Common.{sym, arith}
 use Rattle.rows.proofs.Counts.{count_none, count_yes, count_no}
 use Rattle.bit_rows.specs.Bits.{bit_pairs}
 use Rattle.bit_rows.proofs.count_set.Goals as goal

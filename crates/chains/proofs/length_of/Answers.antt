@@ -1,4 +1,4 @@
-use Rattle.std.proofs.Common.{◌≡◌, ℕ, ◌+◌, ◌<◌, ◌≤◌, sym, refl, ap, ◌∙◌, arith}
+use Rattle.std.proofs.Common.{◌+◌, sym, ap, ◌∙◌, arith}
 use Rattle.chains.specs.Cells.{object_of, link_of, reach, in_row}
 use Rattle.constraints.proofs.Finite.{count_bound}
 use Rattle.rows.proofs.Counts.{count_none}

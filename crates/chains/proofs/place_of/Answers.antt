@@ -1,4 +1,4 @@
-use Rattle.std.proofs.Common.{◌≡◌, ◌<◌, refl, ap, arith}
+use Rattle.std.proofs.Common.{refl, ap, arith}
 use Rattle.chains.specs.Cells.{object_of, above}
 use Rattle.chains.proofs.Reach.{reach_zero}
 use Rattle.chains.proofs.Walks.{object_cell, place_step}

@@ -1,6 +1,5 @@
-use Rattle.std.proofs.Common.{◌≡◌, refl, ◌∙◌, arith}
+use Rattle.std.proofs.Common.{refl, ◌∙◌, arith}
 use Rattle.std.proofs.lemmas.Result.{err_from_is_err_and}
-use Rattle.constraints.specs.Constraint.{Solves, first}
 use Rattle.constraints.specs.Lists.{system_of}
 use Rattle.walks.proofs.Growth.{grows_then, grows_moved, grown_moved, grown_refused, any_onward}
 use Rattle.difference.proofs.Runs.{Advanced, effort_falls, ready_again, idle_solves, idle_from}

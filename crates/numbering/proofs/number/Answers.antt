@@ -1,4 +1,4 @@
-use Rattle.std.proofs.Common.{◌+◌, ◌%◌, ◌<◌, length, get_or, set, sym, refl, subst, arith, rules}
+use Rattle.std.proofs.Common.{◌+◌, ◌%◌, ◌<◌, length, get_or, set, sym, refl, subst, arith}
 use mathlib.Core.Path.{subst₃}
 use Rattle.numbering.proofs.Chains.{Progress, headed_none, progress_found, progress_fresh}
 use Rattle.numbering.proofs.number.Goals as goal

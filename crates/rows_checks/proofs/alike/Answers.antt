@@ -1,5 +1,4 @@
 use Rattle.std.proofs.Common.{◌≡◌, sym, ◌∙◌, rules}
-use Rattle.rows_checks.specs.Runs.{pairs_after, reply_of}
 use Rattle.rows_checks.proofs.alike.Goals as goal
 
 pub returns-then-ne : goal.returns-then-ne

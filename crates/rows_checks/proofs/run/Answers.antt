@@ -1,6 +1,5 @@
-use Rattle.std.proofs.Common.{◌≡◌, ltb, refl, ap, ◌∙◌}
+use Rattle.std.proofs.Common.{refl, ap}
 use Rattle.std.proofs.lemmas.Bool.{lt-ltb}
-use Rattle.rows.specs.Stores.{next_of}
 use Rattle.rows_checks.specs.declared.Reply.TheVariants as Says
 use Rattle.rows.proofs.Replies.{found_is}
 use Rattle.rows_checks.proofs.run.Goals as goal

@@ -1,4 +1,4 @@
-use Rattle.std.proofs.Common.{ℕ, ◌-◌, ◌≤◌, T}
+use Rattle.std.proofs.Common.{◌-◌, ◌≤◌, T}
 use Rattle.constraints.specs.Rows.{pairs}
 use Rattle.constraints.specs.Lists.{system_of}
 use Rattle.walks.specs.Rules.{Includes}

@@ -1,7 +1,6 @@
-use Rattle.std.proofs.Common.{◌≡◌, vec_items, sym, ap, ◌∙◌, subst}
+use Rattle.std.proofs.Common.{vec_items, ap, ◌∙◌, subst}
 use Rattle.analyser.specs.Books.{new_book}
 use Rattle.analyser.specs.Histories.{History, book_from}
-use Rattle.analyser.specs.States.{book_of}
 use Rattle.analyser.proofs.Agreement.{replies_alike}
 use Rattle.analyser.proofs.history.audit.Goals as goal
 

@@ -1,4 +1,4 @@
-use Rattle.std.proofs.Common.{◌≡◌, vec_items, ap, ◌∙◌, subst}
+use Rattle.std.proofs.Common.{vec_items, ap, ◌∙◌, subst}
 use Rattle.std.proofs.lemmas.List.{take_all}
 use Rattle.analyser.specs.Histories.{History, book_from}
 use Rattle.analyser.specs.States.{book_of}

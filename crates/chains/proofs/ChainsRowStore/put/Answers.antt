@@ -1,4 +1,4 @@
-use Rattle.std.proofs.Common.{◌≡◌, sym, refl, inl, inr, ⊎_elim, arith}
+use Rattle.std.proofs.Common.{sym, refl, inl, inr, ⊎_elim, arith}
 use Rattle.std.proofs.lemmas.Bool.{leb-true, leb-false}
 use Rattle.chains.specs.Cells.{links_room}
 use Rattle.chains.proofs.Chained.{is_sound, chain_within}

@@ -1,4 +1,4 @@
-use Rattle.std.proofs.Common.{◌≡◌, ℕ, ◌<◌, length, sym, ap, ◌∙◌, arith}
+use Rattle.std.proofs.Common.{◌≡◌, length, sym, ap, ◌∙◌, arith}
 use Rattle.chains.specs.Cells.{cell_at, object_of, head_of, reach}
 use Rattle.chains.proofs.Walks.{object_cell}
 use Rattle.chains.proofs.Chained.{place_reach, next_none, next_some}

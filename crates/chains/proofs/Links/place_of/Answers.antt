@@ -1,4 +1,4 @@
-use Rattle.std.proofs.Common.{◌≡◌, length, sym, subst}
+use Rattle.std.proofs.Common.{length, sym, subst}
 use Rattle.chains.specs.Cells.{head_of, Rising, Placed}
 use Rattle.chains.proofs.Chained.{in_cells}
 use Rattle.chains.proofs.Links.place_of.Goals as goal

@@ -1,4 +1,4 @@
-use Rattle.std.proofs.Common.{◌≡◌, length, sym, ap, ◌∙◌, subst}
+use Rattle.std.proofs.Common.{length, sym, ap, ◌∙◌, subst}
 use Rattle.constraints.specs.Finite.{count}
 use Rattle.chains.specs.Cells.{head_of, in_row, Rising}
 use Rattle.chains.proofs.Chained.{in_cells, count_row}

@@ -1,7 +1,6 @@
-use Rattle.std.proofs.Common.{◌≡◌, get_or, ap, ◌∙◌, ⊎_elim, arith}
+use Rattle.std.proofs.Common.{get_or, ap, ◌∙◌, ⊎_elim, arith}
 use Rattle.std.proofs.lemmas.Bool.{cases_eq}
 use Rattle.std.proofs.lemmas.Result.{err_from_is_err_and}
-use Rattle.constraints.specs.Rows.{pairs}
 use Rattle.constraints.specs.Constraint.{decode, constraint}
 use Rattle.constraints.specs.Lists.{system_of}
 use Rattle.walks.proofs.Growth.{grows_then, grown_refused}

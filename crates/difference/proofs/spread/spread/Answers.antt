@@ -1,4 +1,3 @@
-use Rattle.constraints.specs.Lists.{system_of}
 use Rattle.walks.proofs.Growth.{grown_weaker}
 use Rattle.difference.proofs.spread.spread.Goals as goal
 

@@ -1,4 +1,4 @@
-use Rattle.std.proofs.Common.{◌≡◌, [], get_or, take, sym, refl, ap, ◌∙◌}
+use Rattle.std.proofs.Common.{[], get_or, take, refl, ap, ◌∙◌}
 use Rattle.std.proofs.lemmas.List.{take_all}
 use Rattle.constraints.specs.Constraint.{variables}
 use Rattle.engine.specs.Meanings.{gathering, block_answer, block_added}

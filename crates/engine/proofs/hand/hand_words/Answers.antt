@@ -1,4 +1,4 @@
-use Rattle.std.proofs.Common.{◌≡◌, get_or, take, sym, refl, ap, ◌∙◌}
+use Rattle.std.proofs.Common.{get_or, refl, ap, ◌∙◌}
 use Rattle.std.proofs.lemmas.List.{take_all}
 use Rattle.engine.specs.Meanings.{gathering, add_answer, word_added}
 use Rattle.engine.proofs.Handing.{ok_or_err, word_taken, word_next}

@@ -1,4 +1,4 @@
-use Rattle.std.proofs.Common.{◌≡◌, ◌||◌, ap, ◌∙◌, arith}
+use Rattle.std.proofs.Common.{◌||◌, ap, ◌∙◌, arith}
 use Rattle.constraints.specs.Constraint.{left, right}
 use Rattle.graphs.specs.Matrix.{bit}
 use Rattle.flows.proofs.Opening.{or_none}

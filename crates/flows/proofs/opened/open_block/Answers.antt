@@ -1,4 +1,4 @@
-use Rattle.std.proofs.Common.{◌≡◌, arith}
+use Rattle.std.proofs.Common.{arith}
 use Rattle.flows.proofs.Opening.{flag_none, flag_more}
 use Rattle.flows.proofs.opened.open_block.Goals as goal
 

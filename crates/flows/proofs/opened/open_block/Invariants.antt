@@ -1,4 +1,4 @@
-use Rattle.std.proofs.Common.{◌≡◌, ℕ, ◌+◌, ◌<◌, false, ◌&&◌, ◌||◌, ltb, leb, get_or}
+use Rattle.std.proofs.Common.{◌≡◌, ℕ, ◌+◌, false, ◌&&◌, ◌||◌, ltb, leb, get_or}
 use Rattle.flows.proofs.opened.open_block.Given as goal
 
 abbrev pub invariant-loop-k : goal.invariant-loop-k

@@ -1,8 +1,7 @@
-use Rattle.std.proofs.Common.{◌≡◌, ◌+◌, false, ◌&&◌, ◌||◌, ltb, leb, get_or, sym, ap, ◌∙◌, arith}
-use Rattle.constraints.specs.Constraint.{right, length_of}
+use Rattle.std.proofs.Common.{◌+◌, false, ◌&&◌, ◌||◌, ltb, leb, get_or, ap, ◌∙◌, arith}
+use Rattle.constraints.specs.Constraint.{right}
 use Rattle.constraints.specs.Lists.{system_of}
 use Rattle.constraints.proofs.Sound.{list_valid}
-use Rattle.flows.specs.Opens.{opens}
 use Rattle.flows.proofs.Opening.{opens_address, opens_other, or_none, block_end}
 use Rattle.flows.proofs.opened.open_word.Goals as goal
 

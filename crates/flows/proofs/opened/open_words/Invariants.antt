@@ -1,4 +1,4 @@
-use Rattle.std.proofs.Common.{◌≡◌, ℕ, ◌<◌, false, get_or}
+use Rattle.std.proofs.Common.{◌≡◌, ℕ, false, get_or}
 use Rattle.constraints.specs.Finite.{any}
 use Rattle.constraints.specs.Lists.{system_of}
 use Rattle.flows.specs.Opens.{opens}

@@ -1,4 +1,4 @@
-use Rattle.std.proofs.Common.{◌≡◌, ℕ, ◌<◌, Bool, true, false, ◌&&◌, ◌||◌, length, get_or, sym, ap, ◌∙◌, subst, arith}
+use Rattle.std.proofs.Common.{◌≡◌, ℕ, ◌<◌, Bool, false, ◌&&◌, ◌||◌, length, get_or, sym, ap, ◌∙◌, subst, arith}
 use Rattle.constraints.specs.Finite.{any}
 use Rattle.constraints.specs.Constraint.{WellFormed, decode}
 use Rattle.constraints.specs.Lists.{system_of}

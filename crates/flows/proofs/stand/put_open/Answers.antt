@@ -1,4 +1,4 @@
-use Rattle.std.proofs.Common.{◌≡◌, sym, ap, ◌∙◌, subst, arith}
+use Rattle.std.proofs.Common.{◌∙◌, arith}
 use Rattle.graphs.specs.Matrix.{bit_at}
 use Rattle.graphs.proofs.Words.{blank_bit}
 use Rattle.flows.proofs.Putting.{rows_none, rows_more, rows_all}

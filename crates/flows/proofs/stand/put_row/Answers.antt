@@ -1,4 +1,4 @@
-use Rattle.std.proofs.Common.{◌≡◌, ◌&&◌, ◌||◌, eqb, sym, ap, ◌∙◌}
+use Rattle.std.proofs.Common.{◌&&◌, ◌||◌, eqb, sym, ap, ◌∙◌}
 use Rattle.graphs.specs.Matrix.{bit_at}
 use Rattle.flows.proofs.Opening.{or_none}
 use Rattle.constraints.specs.Merge.{row, same_source}

@@ -1,4 +1,4 @@
-use Rattle.std.proofs.Common.{◌≡◌, ◌+◌, ◌*◌, ◌||◌, sym, ap, ◌∙◌, arith}
+use Rattle.std.proofs.Common.{◌+◌, ◌*◌, ◌||◌, ap, ◌∙◌, arith}
 use Rattle.graphs.specs.Matrix.{bit_at}
 use Rattle.constraints.specs.Constraint.{left, offset, right}
 use Rattle.flows.proofs.Opening.{or_none}

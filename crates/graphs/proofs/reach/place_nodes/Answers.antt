@@ -1,4 +1,4 @@
-use Rattle.std.proofs.Common.{◌≡◌, sym, subst, arith}
+use Rattle.std.proofs.Common.{◌≡◌, subst, arith}
 use Rattle.graphs.specs.Order.{Arranged}
 use Rattle.graphs.proofs.Orders.{arranged_more, nodes_more}
 use Rattle.graphs.proofs.reach.place_nodes.Goals as goal

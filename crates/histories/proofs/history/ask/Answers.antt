@@ -1,4 +1,4 @@
-use Rattle.std.proofs.Common.{◌≡◌, sym, ap, ◌∙◌, subst}
+use Rattle.std.proofs.Common.{sym, ap, ◌∙◌, subst}
 use Rattle.histories.specs.declared.call.Question.TheVariants.{Points, Alias}
 use Rattle.histories.specs.Says.{answer_of, Answers}
 use Rattle.host_analyser.specs.States.{book_of}

@@ -1,4 +1,4 @@
-use Rattle.std.proofs.Common.{◌≡◌, IfOk, sym, ap, ◌∙◌, subst}
+use Rattle.std.proofs.Common.{IfOk, sym, ap, ◌∙◌, subst}
 use Rattle.histories.specs.Books.{next_book}
 use Rattle.histories.specs.Says.{Says}
 use Rattle.host_analyser.specs.States.{book_of}

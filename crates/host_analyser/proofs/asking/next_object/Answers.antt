@@ -1,4 +1,3 @@
-use Rattle.std.proofs.Common.{◌≡◌}
 use Rattle.host_analyser.proofs.Objects.{next_answered}
 use Rattle.host_analyser.proofs.asking.next_object.Goals as goal
 

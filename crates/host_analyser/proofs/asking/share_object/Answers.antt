@@ -1,4 +1,4 @@
-use Rattle.std.proofs.Common.{◌≡◌, Some, None, sym, ◌∙◌, arith}
+use Rattle.std.proofs.Common.{Some, None, sym, ◌∙◌, arith}
 use Rattle.constraints.specs.Least.{least}
 use Rattle.host_analyser.proofs.Objects.{still_next, share_none_second, share_none_first, share_none_left, share_some}
 use Rattle.host_analyser.proofs.asking.share_object.Goals as goal

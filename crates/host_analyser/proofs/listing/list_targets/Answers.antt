@@ -1,7 +1,6 @@
-use Rattle.std.proofs.Common.{◌≡◌, ◌+◌, ◌<◌, ◌≤◌, List, length, get_or, sym, refl, ap, ◌∙◌, arith}
+use Rattle.std.proofs.Common.{◌≡◌, ◌<◌, ◌≤◌, List, length, get_or, sym, refl, ap, ◌∙◌, arith}
 use Rattle.std.proofs.lemmas.List.{length-map}
 use Rattle.constraints.specs.Least.{least}
-use Rattle.constraints.specs.Blocks.{start}
 use Rattle.declarations.specs.Declarations.{Entry}
 use Rattle.books.specs.Tables.{blocks}
 use Rattle.units.specs.Listing.{overlaid}

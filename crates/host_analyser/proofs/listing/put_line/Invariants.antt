@@ -1,4 +1,4 @@
-use Rattle.std.proofs.Common.{◌≡◌, ◌+◌, take}
+use Rattle.std.proofs.Common.{◌≡◌, take}
 use Rattle.units.specs.Listing.{overlaid}
 use Rattle.host_analyser.proofs.listing.put_line.Given as goal
 

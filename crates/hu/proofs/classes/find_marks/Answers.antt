@@ -1,4 +1,4 @@
-use Rattle.std.proofs.Common.{◌≡◌, sym, ap, ◌∙◌, arith}
+use Rattle.std.proofs.Common.{ap, ◌∙◌, arith}
 use Rattle.constraints.specs.Lists.{system_of}
 use Rattle.constraints.proofs.Sound.{list_valid}
 use Rattle.hu.specs.Marks.{gathered}

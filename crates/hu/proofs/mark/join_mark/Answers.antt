@@ -1,4 +1,4 @@
-use Rattle.std.proofs.Common.{◌≡◌, sym, refl, subst, arith}
+use Rattle.std.proofs.Common.{sym, refl, subst, arith}
 use Rattle.graphs.specs.Matrix.{Joined, row_at}
 use Rattle.graphs.proofs.Rows.{row_length}
 use Rattle.hu.proofs.Marking.{joined_bit, passed_bit}

@@ -1,4 +1,4 @@
-use Rattle.std.proofs.Common.{◌≡◌, ◌||◌, refl, ap, ◌∙◌, arith, below_more}
+use Rattle.std.proofs.Common.{◌≡◌, ◌||◌, ap, ◌∙◌, arith, below_more}
 use Rattle.graphs.specs.Matrix.{bit_at}
 use Rattle.graphs.proofs.Words.{blank_bit}
 use Rattle.hu.specs.Marks.{gathered}

@@ -1,4 +1,4 @@
-use Rattle.std.proofs.Common.{◌≡◌, subst, arith}
+use Rattle.std.proofs.Common.{subst}
 use Rattle.constraints.specs.Lists.{system_of}
 use Rattle.constraints.specs.Merge.{copy_edge}
 use Rattle.graphs.specs.Order.{Arranged}

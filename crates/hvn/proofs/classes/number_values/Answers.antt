@@ -1,5 +1,5 @@
-use Rattle.std.proofs.Common.{◌≡◌, ◌<◌, get_or, sym, ◌∙◌, subst, subst₂, arith}
-use Rattle.constraints.specs.Constraint.{System, var_count}
+use Rattle.std.proofs.Common.{◌≡◌, ◌<◌, get_or, subst, subst₂, arith}
+use Rattle.constraints.specs.Constraint.{var_count}
 use Rattle.constraints.specs.Lists.{system_of}
 use Rattle.constraints.proofs.Sound.{list_valid}
 use Rattle.hvn.specs.Columns.{RowDone}

@@ -1,4 +1,4 @@
-use Rattle.std.proofs.Common.{◌≡◌, refl, ◌∙◌, arith}
+use Rattle.std.proofs.Common.{refl, ◌∙◌}
 use Rattle.graphs.specs.Matrix.{bit_at}
 use Rattle.hvn.proofs.Rowing.{brought_none, brought_more}
 use Rattle.hvn.proofs.element.fill.Goals as goal

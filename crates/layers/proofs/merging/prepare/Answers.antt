@@ -1,6 +1,5 @@
-use Rattle.std.proofs.Common.{◌≡◌, ℕ, ◌<◌, ◌≤◌, false, [], length, get_or, take, sym, refl, ap, ◌∙◌, subst, subst₂, arith}
-use Rattle.constraints.specs.Constraint.{Valid, System, var_count}
-use Rattle.constraints.specs.Merge.{is_open}
+use Rattle.std.proofs.Common.{◌≡◌, ℕ, ◌<◌, ◌≤◌, [], length, get_or, take, sym, refl, ap, ◌∙◌, subst₂, arith}
+use Rattle.constraints.specs.Constraint.{var_count}
 use Rattle.constraints.specs.Reduced.{reduce_onto}
 use Rattle.constraints.specs.Lists.{system_of}
 use Rattle.constraints.proofs.Sound.{list_valid}

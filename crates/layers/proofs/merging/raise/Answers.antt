@@ -1,4 +1,4 @@
-use Rattle.std.proofs.Common.{◌≡◌, ℕ, ◌<◌, ◌≤◌, length, get_or, take, sym, refl, ap, ◌∙◌, ap₂, arith, Fits-lit}
+use Rattle.std.proofs.Common.{◌≡◌, ◌<◌, ◌≤◌, length, get_or, take, sym, ap, ◌∙◌, ap₂, arith}
 use Rattle.std.proofs.lemmas.List.{get_or-take}
 use Rattle.constraints.specs.Constraint.{var_count}
 use Rattle.constraints.specs.Reduced.{own_position}

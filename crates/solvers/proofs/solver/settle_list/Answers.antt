@@ -1,4 +1,4 @@
-use Rattle.std.proofs.Common.{◌≡◌, ◌<◌, length, sym, refl, ap, ◌∙◌, arith}
+use Rattle.std.proofs.Common.{◌<◌, length, refl, ap, ◌∙◌, arith}
 use Rattle.constraints.specs.Least.{least}
 use Rattle.constraints.specs.Lists.{system_of}
 use Rattle.constraints.proofs.Solver.{first_all}

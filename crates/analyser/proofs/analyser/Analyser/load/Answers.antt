@@ -1,4 +1,4 @@
-use Rattle.std.proofs.Common.{◌≡◌, ◌<◌, true, false, length, Some, ap, arith}
+use Rattle.std.proofs.Common.{◌<◌, true, false, length, Some, ap, arith}
 use Rattle.std.proofs.lemmas.Result.{err_from_is_err_and}
 use Rattle.analyser.specs.Books.{unsettled}
 use Rattle.analyser.specs.States.{book_of}

@@ -1,4 +1,4 @@
-use Rattle.std.proofs.Common.{◌≡◌, ◌<◌, true, false, length, None, ap, arith}
+use Rattle.std.proofs.Common.{◌<◌, true, false, length, None, ap, arith}
 use Rattle.analyser.specs.Books.{unsettled}
 use Rattle.analyser.specs.States.{book_of}
 use Rattle.analyser.proofs.Units.{stands_at, set_slot, unload_outside, unload_nothing, unload_accepted}

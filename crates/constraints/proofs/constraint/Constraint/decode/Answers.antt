@@ -1,4 +1,4 @@
-use Rattle.std.proofs.Common.{◌≡◌, ℕ, refl, arith}
+use Rattle.std.proofs.Common.{◌≡◌, refl, arith}
 use Rattle.constraints.specs.Constraint.{kind, offset}
 use Rattle.constraints.proofs.Encoding.{decode_kind, rebuilt}
 use Rattle.constraints.proofs.constraint.Constraint.decode.Goals as goal

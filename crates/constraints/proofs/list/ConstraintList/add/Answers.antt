@@ -1,4 +1,4 @@
-use Rattle.std.proofs.Common.{◌≡◌, ℕ, ◌+◌, ◌<◌, ◌≤◌, true, length, get_or, take, set, sym, refl, ap, ◌∙◌, arith}
+use Rattle.std.proofs.Common.{◌≡◌, ◌<◌, true, length, take, sym, arith}
 use Rattle.constraints.specs.Words.{is_word}
 use Rattle.constraints.proofs.Pushed.{formed_more, word_accepted, word_pushed}
 use Rattle.constraints.proofs.list.ConstraintList.add.Goals as goal

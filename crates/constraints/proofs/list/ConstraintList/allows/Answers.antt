@@ -1,7 +1,7 @@
-use Rattle.std.proofs.Common.{◌≡◌, ℕ, ◌/◌, ◌<◌, ◌≤◌, true, false, ltb, ◌⊎◌, take, sym, ◌∙◌, inl, inr, arith}
-use Rattle.std.proofs.lemmas.Bool.{ltb-true, eq-eqb, cases_lt, lt-ltb, le-ltb}
-use Rattle.constraints.specs.Constraint.{kind, left, offset, right, variables, length_of}
-use Rattle.constraints.proofs.Formed.{Parts, not_word, word_right, ruled_if, rule_offset, rule_object}
+use Rattle.std.proofs.Common.{◌≡◌, ◌/◌, ◌<◌, take, ◌∙◌, inl, inr, arith}
+use Rattle.std.proofs.lemmas.Bool.{eq-eqb, cases_lt, lt-ltb, le-ltb}
+use Rattle.constraints.specs.Constraint.{kind, offset, right, length_of}
+use Rattle.constraints.proofs.Formed.{not_word, word_right, ruled_if, rule_offset, rule_object}
 use Rattle.constraints.proofs.list.ConstraintList.allows.Goals as goal
 
 pub returns-then-left-width : goal.returns-then-left-width

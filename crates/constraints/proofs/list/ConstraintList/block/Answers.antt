@@ -1,4 +1,4 @@
-use Rattle.std.proofs.Common.{◌≡◌, ℕ, ◌+◌, ◌<◌, ◌≤◌, length, get_or, take, set, sym, refl, ap, ◌∙◌, arith}
+use Rattle.std.proofs.Common.{◌<◌, length, take, arith}
 use Rattle.constraints.proofs.Pushed.{sized_push, formed_push, width_push, told_push, block_accepted, block_pushed}
 use Rattle.constraints.proofs.list.ConstraintList.block.Goals as goal
 

@@ -1,4 +1,4 @@
-use Rattle.std.proofs.Common.{◌≡◌, sym, refl, ap, ◌∙◌}
+use Rattle.std.proofs.Common.{refl, ap}
 use Rattle.host_analyser.specs.States.{book_of}
 use Rattle.host_analyser.proofs.Located.{points_answered}
 use Rattle.host_analyser.proofs.Refused.{asked_right}

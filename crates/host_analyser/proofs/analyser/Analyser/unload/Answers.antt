@@ -1,4 +1,4 @@
-use Rattle.std.proofs.Common.{◌≡◌, is_ok, Err, sym, refl, ap, ◌∙◌}
+use Rattle.std.proofs.Common.{is_ok, Err, sym, refl, ap, ◌∙◌}
 use Rattle.std.proofs.lemmas.Result.{err_from_is_err_and}
 use Rattle.host_analyser.specs.Replies.{result_of}
 use Rattle.host_analyser.proofs.Refused.{refused_reply, unload_refused, unload_stays, still_right}

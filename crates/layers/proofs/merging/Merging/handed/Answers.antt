@@ -1,4 +1,4 @@
-use Rattle.std.proofs.Common.{◌≡◌, ℕ, min, cond, List, take, refl, ap, ◌∙◌, arith}
+use Rattle.std.proofs.Common.{◌≡◌, take, ap, ◌∙◌, arith}
 use Rattle.layers.proofs.merging.Merging.handed.Goals as goal
 use Rattle.layers.proofs.merging.Merging.handed.Goals.{then-self, else-self}
 

@@ -1,4 +1,4 @@
-use Rattle.std.proofs.Common.{◌≡◌, ◌<◌, Some, ap, arith}
+use Rattle.std.proofs.Common.{◌<◌, Some, ap, arith}
 use Rattle.std.proofs.lemmas.Bool.{lt-ltb}
 use Rattle.constraints.specs.Constraint.{var_count}
 use Rattle.constraints.specs.Lists.{system_of}

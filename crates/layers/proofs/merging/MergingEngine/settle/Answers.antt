@@ -1,9 +1,9 @@
-use Rattle.std.proofs.Common.{◌≡◌, ℕ, ◌<◌, ◌≤◌, true, false, length, take, Err, sym, refl, ap, ◌∙◌, subst, subst₂, arith}
+use Rattle.std.proofs.Common.{◌≡◌, length, take, Err, sym, ap, ◌∙◌, subst, subst₂, arith}
 use Rattle.std.proofs.lemmas.List.{length-take}
 use Rattle.std.proofs.lemmas.Bool.{false≢true}
-use Rattle.constraints.specs.Constraint.{Valid, var_count}
+use Rattle.constraints.specs.Constraint.{Valid}
 use Rattle.constraints.specs.Lists.{system_of}
-use Rattle.engine.specs.Meanings.{Meaning, gathering, Settles}
+use Rattle.engine.specs.Meanings.{gathering, Settles}
 use Rattle.constraints.proofs.Sound.{list_valid}
 use Rattle.layers.specs.Classes.{Named}
 use Rattle.layers.specs.Layered.{handed, layered, raised}
