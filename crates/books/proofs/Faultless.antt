@@ -1,6 +1,6 @@
 -- A text with no declaration fault: its words are lawful over its own declarations.
 use Rattle.std.proofs.Common.{◌≡◌, ℕ, suc, ◌+◌, ◌<◌, ◌≤◌, Bool, true, false, cond, ltb, List, [], ◌∷◌, ◌++◌, map, length, Some, None, refl, ◌∙◌, subst, not-suc-le-zero, arith}
-use Rattle.std.specs.List.{flat_map, AllByRecursion as All}
+use Rattle.std.specs.List.{flat_map, AllByRecursion}
 use Rattle.std.specs.Str.{bytes_eq}
 use Rattle.std.proofs.lemmas.List.{append_assoc}
 use Rattle.std.proofs.ByRecursion.{All-append}
@@ -60,21 +60,21 @@ fits_later es fs (calls f k) h =
     size_left es fs f.bytes (omega arith) ∙ e
 
 fits_step : (es : List Entry) (m : Mention) (ms : List Mention) (b : Bool) (at : ℕ) → right es m ≡ b → cond b (fault_after (es ++ entry m) ms) (Some at) ≡ None
-    → (fault_after (es ++ entry m) ms ≡ None → All (Fits ((es ++ entry m) ++ flat_map entry ms)) ms)
-    → All (Fits (es ++ flat_map entry (m ∷ ms))) (m ∷ ms)
+    → (fault_after (es ++ entry m) ms ≡ None → AllByRecursion (Fits ((es ++ entry m) ++ flat_map entry ms)) ms)
+    → AllByRecursion (Fits (es ++ flat_map entry (m ∷ ms))) (m ∷ ms)
 fits_step es m ms true at h e ih =
-    (fits_later es (flat_map entry ms) m h, subst (λ fs. All (Fits fs) ms) (append_assoc es (entry m) (flat_map entry ms)) (ih e))
+    (fits_later es (flat_map entry ms) m h, subst (λ fs. AllByRecursion (Fits fs) ms) (append_assoc es (entry m) (flat_map entry ms)) (ih e))
 fits_step es m ms false at h e ih = let z : ◌≡◌ {A = ℕ} 0 1 = cc in absurd (omega arith)
 
-fits_all : (es : List Entry) (ms : List Mention) → fault_after es ms ≡ None → All (Fits (es ++ flat_map entry ms)) ms
+fits_all : (es : List Entry) (ms : List Mention) → fault_after es ms ≡ None → AllByRecursion (Fits (es ++ flat_map entry ms)) ms
 fits_all es [] e = tt
 fits_all es (m ∷ ms) e = fits_step es m ms (right es m) _ refl e (fits_all (es ++ entry m) ms)
 
 -- every name of a faultless text is right over the text's declarations
-pub faultless_fits : (ms : List Mention) → fault_after [] ms ≡ None → All (Fits (flat_map entry ms)) ms
+pub faultless_fits : (ms : List Mention) → fault_after [] ms ≡ None → AllByRecursion (Fits (flat_map entry ms)) ms
 faultless_fits ms e = fits_all [] ms e
 
-pub all_split : {X : Type 0} (P : X → Type 0) (xs ys : List X) → All P (xs ++ ys) → All P xs × All P ys
+pub all_split : {X : Type 0} (P : X → Type 0) (xs ys : List X) → AllByRecursion P (xs ++ ys) → AllByRecursion P xs × AllByRecursion P ys
 all_split P [] ys h = (tt, h)
 all_split P (x ∷ xs) ys (p, h) = let (l, r) = all_split P xs ys h in ((p, l), r)
 
@@ -98,29 +98,29 @@ module _ (es : List Entry) where
   lawful_store p q k small l r =
       record { left_in = l; right_in = r; kind_in = omega arith; offset_in = small; no_offset = λ e. absurd (omega arith); object_right = λ e. absurd (omega arith) }
 
-  passed_lawful : (f : Name) (k : ℕ) (given : List Place) → k + length given ≤ size_of es f.bytes → All (Fits es) (map uses given)
-      → All (Lawful es) (argument_words (direct f) k given)
+  passed_lawful : (f : Name) (k : ℕ) (given : List Place) → k + length given ≤ size_of es f.bytes → AllByRecursion (Fits es) (map uses given)
+      → AllByRecursion (Lawful es) (argument_words (direct f) k given)
   passed_lawful f k [] room fits = tt
   passed_lawful f k (a ∷ given) room (h, fits) =
       (lawful_copy (slot_of f k) (cell a) (omega arith) (use_within a h), passed_lawful f (k + 1) given (omega arith) fits)
 
-  through_lawful : (p : Place) (k : ℕ) (given : List Place) → Within es (cell p) → k + length given ≤ 8 → All (Fits es) (map uses given)
-      → All (Lawful es) (argument_words (through p) k given)
+  through_lawful : (p : Place) (k : ℕ) (given : List Place) → Within es (cell p) → k + length given ≤ 8 → AllByRecursion (Fits es) (map uses given)
+      → AllByRecursion (Lawful es) (argument_words (through p) k given)
   through_lawful p k [] p_in room fits = tt
   through_lawful p k (a ∷ given) p_in room (h, fits) =
       (lawful_store (cell p) (cell a) k (omega arith) p_in (use_within a h), through_lawful p (k + 1) given p_in (omega arith) fits)
 
   arguments_lawful : (callee : Callee) (given : List Place) → length given ≤ 6
-      → All (Fits es) (call_mentions (record { callee = callee; arguments = given })) → All (Lawful es) (argument_words callee 2 given)
+      → AllByRecursion (Fits es) (call_mentions (record { callee = callee; arguments = given })) → AllByRecursion (Lawful es) (argument_words callee 2 given)
   arguments_lawful (direct f) given few (h, fits) = passed_lawful f 2 given (omega arith) fits
   arguments_lawful (through p) given few (h, fits) = through_lawful p 2 given (use_within p h) (omega arith) fits
 
   result_lawful : (r : Place) (callee : Callee) (given : List Place) → Within es (cell r)
-      → All (Fits es) (call_mentions (record { callee = callee; arguments = given })) → All (Lawful es) (result_words (Some r) callee)
+      → AllByRecursion (Fits es) (call_mentions (record { callee = callee; arguments = given })) → AllByRecursion (Lawful es) (result_words (Some r) callee)
   result_lawful r (direct f) given r-in (h, fits) = (lawful_copy (cell r) (slot_of f 1) r-in (omega arith), tt)
   result_lawful r (through p) given r-in (h, fits) = (lawful_load (cell r) (cell p) 1 (omega arith) r-in (use_within p h), tt)
 
-  value_lawful : (r : Place) (v : Value) → FewIn v → Within es (cell r) → All (Fits es) (value_mentions v) → All (Lawful es) (value_words r v)
+  value_lawful : (r : Place) (v : Value) → FewIn v → Within es (cell r) → AllByRecursion (Fits es) (value_mentions v) → AllByRecursion (Lawful es) (value_words r v)
   value_lawful r (address a) few r-in (h, fits) = (lawful_address (cell r) a r-in (ltb-true 0 (size_of es a.bytes) h), tt)
   value_lawful r (copy q) few r-in (h, fits) = (lawful_copy (cell r) (cell q) r-in (use_within q h), tt)
   value_lawful r (load q) few r-in (h, fits) = (lawful_load (cell r) (cell q) 0 (omega arith) r-in (use_within q h), tt)
@@ -128,7 +128,7 @@ module _ (es : List Entry) where
       All-append (Lawful es) (argument_words c.callee 2 c.arguments) _ (arguments_lawful c.callee c.arguments few fits)
       (result_lawful r c.callee c.arguments r-in fits)
 
-  item_lawful : (i : Item) → Few i → All (Fits es) (mentions i) → All (Lawful es) (words_of i)
+  item_lawful : (i : Item) → Few i → AllByRecursion (Fits es) (mentions i) → AllByRecursion (Lawful es) (words_of i)
   item_lawful (variable e n) few fits = tt
   item_lawful (function e n k) few fits = tt
   item_lawful (assign p v) few (h, fits) = value_lawful p v few (use_within p h) fits
@@ -137,7 +137,7 @@ module _ (es : List Entry) where
       All-append (Lawful es) (argument_words c.callee 2 c.arguments) [] (arguments_lawful c.callee c.arguments few fits) tt
 
   -- the words of statements whose names are right are lawful
-  pub statements_lawful : (ss : List Statement) → Legal (map item_of ss) → All (Fits es) (flat_map mentions_at ss) → All (Lawful es) (flat_map words_at ss)
+  pub statements_lawful : (ss : List Statement) → Legal (map item_of ss) → AllByRecursion (Fits es) (flat_map mentions_at ss) → AllByRecursion (Lawful es) (flat_map words_at ss)
   statements_lawful [] legal fits = tt
   statements_lawful (s ∷ ss) (few, legal) fits =
       let (here, later) = all_split (Fits es) (mentions_at s) (flat_map mentions_at ss) fits in
@@ -146,18 +146,18 @@ module _ (es : List Entry) where
   abbrev Inside : Place → Type 0
   Inside p = Within es (cell p)
 
-  callee_inside : (callee : Callee) (given : List Place) → All (Fits es) (call_mentions (record { callee = callee; arguments = given }))
-      → All Inside (pointer_of callee)
+  callee_inside : (callee : Callee) (given : List Place) → AllByRecursion (Fits es) (call_mentions (record { callee = callee; arguments = given }))
+      → AllByRecursion Inside (pointer_of callee)
   callee_inside (direct f) given fits = tt
   callee_inside (through p) given (h, fits) = (use_within p h, tt)
 
-  value_inside : (v : Value) → All (Fits es) (value_mentions v) → All Inside (value_pointers v)
+  value_inside : (v : Value) → AllByRecursion (Fits es) (value_mentions v) → AllByRecursion Inside (value_pointers v)
   value_inside (address a) fits = tt
   value_inside (copy q) fits = tt
   value_inside (load q) fits = tt
   value_inside (returned c) fits = callee_inside c.callee c.arguments fits
 
-  item_inside : (i : Item) → All (Fits es) (mentions i) → All Inside (pointers_of i)
+  item_inside : (i : Item) → AllByRecursion (Fits es) (mentions i) → AllByRecursion Inside (pointers_of i)
   item_inside (variable e n) fits = tt
   item_inside (function e n k) fits = tt
   item_inside (assign p v) (h, fits) = value_inside v fits
@@ -165,7 +165,7 @@ module _ (es : List Entry) where
   item_inside (invoke c) fits = callee_inside c.callee c.arguments fits
 
   -- the pointers of their calls are in the table
-  pub pointers_inside : (ss : List Statement) → All (Fits es) (flat_map mentions_at ss) → All Inside (flat_map pointers_at ss)
+  pub pointers_inside : (ss : List Statement) → AllByRecursion (Fits es) (flat_map mentions_at ss) → AllByRecursion Inside (flat_map pointers_at ss)
   pointers_inside [] fits = tt
   pointers_inside (s ∷ ss) fits =
       let (here, later) = all_split (Fits es) (mentions_at s) (flat_map mentions_at ss) fits in

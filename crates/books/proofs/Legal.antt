@@ -1,6 +1,6 @@
 -- A text's unit is one of the grammar; its names have 1 to 24 bytes and its functions at most six parameters.
 use Rattle.std.proofs.Common.{◌≡◌, ℕ, ◌<◌, ◌≤◌, Bool, true, false, cond, ◌&&◌, ltb, leb, List, [], ◌∷◌, map, length, Ok, Err, Result as Outcome, refl, arith}
-use Rattle.std.specs.List.{flat_map, AllByRecursion as All}
+use Rattle.std.specs.List.{flat_map, AllByRecursion}
 use Rattle.std.proofs.ByRecursion.{All-append}
 use Rattle.std.proofs.lemmas.Bool.{and_parts, leb-true, false≢true}
 use Rattle.lexemes.specs.Terminals.{Terminal, word, name, number}
@@ -23,7 +23,7 @@ use Rattle.declarations.specs.Declarations.{Mention, declares, uses, calls, ment
 use Rattle.books.specs.Counts.{Short, DeclaredNamesAreShort}
 
 abbrev L : List Terminal → Type 0
-L = All Lexical
+L = AllByRecursion Lexical
 
 -- what follows a part of an item
 past_slot : (s : Slot) (rest : List Terminal) → L (grammar.slot s rest) → L rest
@@ -73,21 +73,21 @@ short_name (b ∷ bs) e =
     let (few, _) = and_parts (leb (length bs) 23) (is_free (reserved (b ∷ bs))) rest in
     (omega arith, omega (arith, leb-true (length bs) 23 few))
 
-short_uses : (ps : List Place) → All ShortMention (map uses ps)
+short_uses : (ps : List Place) → AllByRecursion ShortMention (map uses ps)
 short_uses [] = tt
 short_uses (p ∷ ps) = (tt, short_uses ps)
 
-short_call : (callee : Callee) (given : List Place) → All ShortMention (call_mentions (record { callee = callee; arguments = given }))
+short_call : (callee : Callee) (given : List Place) → AllByRecursion ShortMention (call_mentions (record { callee = callee; arguments = given }))
 short_call (direct f) given = (tt, short_uses given)
 short_call (through p) given = (tt, short_uses given)
 
-short_value : (v : Value) → All ShortMention (value_mentions v)
+short_value : (v : Value) → AllByRecursion ShortMention (value_mentions v)
 short_value (address a) = (tt, tt)
 short_value (copy q) = (tt, tt)
 short_value (load q) = (tt, tt)
 short_value (returned c) = short_call c.callee c.arguments
 
-short_item : (i : Item) (rest : List Terminal) → L (grammar.body i rest) → All ShortMention (mentions i) × L rest
+short_item : (i : Item) (rest : List Terminal) → L (grammar.body i rest) → AllByRecursion ShortMention (mentions i) × L rest
 short_item (variable e n) rest all =
     let (_, (named, more)) = past_linkage e (word _ ∷ name n ∷ rest) all in
     let (some, few) = short_name n.bytes named in
@@ -100,21 +100,21 @@ short_item (assign p v) rest all = ((tt, short_value v), past_value v rest (past
 short_item (store p q) rest (_, all) = ((tt, (tt, tt)), past_place q rest (past_place p _ all).1)
 short_item (invoke c) rest all = (short_call c.callee c.arguments, past_call c rest all)
 
-short_statements : (ss : List Statement) → L (grammar.unit (map item_of ss) []) → All ShortMention (flat_map mentions_at ss)
+short_statements : (ss : List Statement) → L (grammar.unit (map item_of ss) []) → AllByRecursion ShortMention (flat_map mentions_at ss)
 short_statements [] all = tt
 short_statements (s ∷ ss) all =
     let (here, later) = short_item s.item _ all in All-append ShortMention (mentions_at s) (flat_map mentions_at ss) here (short_statements ss later.1)
 
-short_entries : (ms : List Mention) → All ShortMention ms → All Short (flat_map entry ms)
+short_entries : (ms : List Mention) → AllByRecursion ShortMention ms → AllByRecursion Short (flat_map entry ms)
 short_entries [] all = tt
 short_entries (declares e n k ∷ ms) (small, all) = (small, short_entries ms all)
 short_entries (uses p ∷ ms) (_, all) = short_entries ms all
 short_entries (calls f k ∷ ms) (_, all) = short_entries ms all
 
 abbrev Right : List Statement → Type 0
-Right ss = Legal (map item_of ss) × All Short (flat_map entry (flat_map mentions_at ss))
+Right ss = Legal (map item_of ss) × AllByRecursion Short (flat_map entry (flat_map mentions_at ss))
 
-pub text_legal : (text : List ℕ) → Legal (unit_in text) × All Short (declared_in text)
+pub text_legal : (text : List ℕ) → Legal (unit_in text) × AllByRecursion Short (declared_in text)
 unfolding read mentions_in
 text_legal text = go (ltb 4096 (length text)) (statements_from text 0) refl
   where

@@ -1,6 +1,6 @@
 -- A book's list: a valid system, and one inside that of any book with more texts.
 use Rattle.std.proofs.Common.{◌≡◌, ℕ, zero, suc, ◌<◌, List, [], ◌∷◌, None, sym, refl, ◌∙◌, inl, inr, not-suc-le-zero, arith}
-use Rattle.std.specs.List.{flat_map, AllByRecursion as All}
+use Rattle.std.specs.List.{flat_map, AllByRecursion}
 use Rattle.std.specs.Str.{bytes_eq}
 use Rattle.std.proofs.ByRecursion.{All-append}
 use Rattle.std.proofs.lemmas.Bool.{cond_both}
@@ -22,16 +22,16 @@ use Rattle.books.proofs.Validity.{program_valid}
 use Rattle.books.proofs.Faultless.{size_left, size_right, faultless_fits, statements_lawful}
 use Rattle.books.proofs.Legal.{text_legal}
 
-all_without : (P : Entry → Type 0) (n : List ℕ) (es : List Entry) → All P es → All P (without n es)
+all_without : (P : Entry → Type 0) (n : List ℕ) (es : List Entry) → AllByRecursion P es → AllByRecursion P (without n es)
 all_without P n [] all = tt
 all_without P n (e ∷ es) (p, all) =
-    cond_both (bytes_eq e.name n) (without n es) (e ∷ without n es) (All P) (λ _. all_without P n es all) (λ _. (p, all_without P n es all))
+    cond_both (bytes_eq e.name n) (without n es) (e ∷ without n es) (AllByRecursion P) (λ _. all_without P n es all) (λ _. (p, all_without P n es all))
 
-pub all_distinct : (P : Entry → Type 0) (es : List Entry) → All P es → All P (distinct es)
+pub all_distinct : (P : Entry → Type 0) (es : List Entry) → AllByRecursion P es → AllByRecursion P (distinct es)
 all_distinct P [] all = tt
 all_distinct P (e ∷ es) (p, all) = (p, all_without P e.name (distinct es) (all_distinct P es all))
 
-pub all_short : (texts : List (List ℕ)) → All Short (flat_map declared_in texts)
+pub all_short : (texts : List (List ℕ)) → AllByRecursion Short (flat_map declared_in texts)
 all_short [] = tt
 all_short (t ∷ texts) = All-append Short (declared_in t) (flat_map declared_in texts) (text_legal t).1 (all_short texts)
 
@@ -91,16 +91,16 @@ lawful_grown es fs w grows lawful =
     }
 
 -- the words of a faultless text are lawful over its declarations
-text_lawful : (text : List ℕ) → fault_in text ≡ None → All (Lawful (declared_in text)) (words_in text)
+text_lawful : (text : List ℕ) → fault_in text ≡ None → AllByRecursion (Lawful (declared_in text)) (words_in text)
 unfolding mentions_in words_in
 text_lawful text e = statements_lawful (declared_in text) (statements_in text) (text_legal text).0 (faultless_fits (mentions_in text) e)
 
-all_map : {X : Type 0} (P Q : X → Type 0) (xs : List X) → ((x : X) → P x → Q x) → All P xs → All Q xs
+all_map : {X : Type 0} (P Q : X → Type 0) (xs : List X) → ((x : X) → P x → Q x) → AllByRecursion P xs → AllByRecursion Q xs
 all_map P Q [] there all = tt
 all_map P Q (x ∷ xs) there (p, all) = (there x p, all_map P Q xs there all)
 
 -- the words of a standing text are lawful over the table
-pub standing_lawful : (texts : List (List ℕ)) → Book texts → (t : List ℕ) → t ∈ texts → All (Lawful (table texts)) (words_in t)
+pub standing_lawful : (texts : List (List ℕ)) → Book texts → (t : List ℕ) → t ∈ texts → AllByRecursion (Lawful (table texts)) (words_in t)
 standing_lawful texts book t t_in =
     all_map (Lawful (declared_in t)) (Lawful (table texts)) (words_in t)
     (λ w. lawful_grown (declared_in t) (table texts) w (text_grows texts book.agreed t t_in)) (text_lawful t (book.faultless t t_in))

@@ -1,6 +1,6 @@
 -- Laws of what stands in a list.
 use Rattle.std.proofs.Common.{◌≡◌, ℕ, zero, suc, ◌+◌, ◌<◌, Bool, true, false, cond, ◌||◌, ltb, ◌⊎◌, List, [], ◌∷◌, ◌++◌, map, length, get_or, Some, sym, refl, ap, ◌∙◌, inl, inr, not-suc-le-zero, arith}
-use Rattle.std.specs.List.{flat_map, AllByRecursion as All, slice_get}
+use Rattle.std.specs.List.{flat_map, AllByRecursion, slice_get}
 use Rattle.std.proofs.lemmas.Bool.{or_parts, or_from, or_cases, or_left, or_right, lt-ltb, false≢true}
 use Rattle.books.specs.Members.{◌∈◌, ◌⊆◌, any_of, count_of}
 use Rattle.books.proofs.Options.{none_some, some_same}
@@ -47,7 +47,7 @@ joined_in f a (y ∷ xs) h =
 pub joined_within : {X A : Type 0} (f : X → List A) (xs ys : List X) → xs ⊆ ys → flat_map f xs ⊆ flat_map f ys
 joined_within f xs ys sub a h = let (x, x_in, k) = joined_in f a xs h in in_joined f a x ys (sub x x_in) k
 
-pub all_in : {X : Type 0} (P : X → Type 0) (x : X) (xs : List X) → All P xs → x ∈ xs → P x
+pub all_in : {X : Type 0} (P : X → Type 0) (x : X) (xs : List X) → AllByRecursion P xs → x ∈ xs → P x
 all_in P x [] all h = absurd h
 all_in P x (y ∷ ys) (p, all) (inl e) = rw e p
 all_in P x (y ∷ ys) (p, all) (inr h) = all_in P x ys all h

@@ -1,6 +1,6 @@
 -- The pointers of standing texts are in the table.
 use Rattle.std.proofs.Common.{◌≡◌, ℕ, List, Some, None, Option, refl}
-use Rattle.std.specs.List.{AllByRecursion as All, slice_get}
+use Rattle.std.specs.List.{AllByRecursion, slice_get}
 use Rattle.grammar.specs.Grammar.{Place}
 use Rattle.grammar.specs.Units.{statements_in}
 use Rattle.units.specs.Statements.{cell}
@@ -15,7 +15,7 @@ use Rattle.books.proofs.Embedding.{grown}
 use Rattle.books.proofs.Faultless.{faultless_fits, pointers_inside}
 use Rattle.books.proofs.Lists.{text_grows}
 
-text_pointers : (t : List ℕ) → fault_in t ≡ None → All (λ (p : Place). Within (declared_in t) (cell p)) (pointers_in t)
+text_pointers : (t : List ℕ) → fault_in t ≡ None → AllByRecursion (λ (p : Place). Within (declared_in t) (cell p)) (pointers_in t)
 unfolding mentions_in pointers_in
 text_pointers t e = pointers_inside (declared_in t) (statements_in t) (faultless_fits (mentions_in t) e)
 

@@ -1,6 +1,6 @@
 -- Which names are listed as targets.
 use Rattle.std.proofs.Common.{◌≡◌, ℕ, suc, ◌+◌, ◌<◌, Bool, true, false, cond, ◌&&◌, T, ltb, List, [], ◌∷◌, ◌++◌, map, sym, refl, subst, inl, inr, not-suc-le-zero, arith}
-use Rattle.std.specs.List.{AllByRecursion as All}
+use Rattle.std.specs.List.{AllByRecursion}
 use Rattle.std.specs.Str.{bytes_eq}
 use Rattle.std.proofs.lemmas.Bool.{ltb-true, lt-ltb, cond-true, cond-false}
 use Rattle.constraints.proofs.Finite.{T_true, and_left, and_right, and_intro}
@@ -80,11 +80,11 @@ rising_moved f g k (m ∷ ns) moved (below, rising) = (
   rising_moved f g k ns (λ n n_in. moved n (inr n_in)) rising,
 )
   where
-    all_moved : (ls : List (List ℕ)) → ((n : List ℕ) → n ∈ ls → g n ≡ k + f n) → All (λ y. f m < y) (map f ls) → All (λ y. g m < y) (map g ls)
+    all_moved : (ls : List (List ℕ)) → ((n : List ℕ) → n ∈ ls → g n ≡ k + f n) → AllByRecursion (λ y. f m < y) (map f ls) → AllByRecursion (λ y. g m < y) (map g ls)
     all_moved [] at all = tt
     all_moved (l ∷ ls) at (lt, all) = (omega (arith, moved m (inl refl), at l (inl refl), lt), all_moved ls (λ n n_in. at n (inr n_in)) all)
 
-all_above : (g : List ℕ → ℕ) (b : ℕ) (ns : List (List ℕ)) → ((n : List ℕ) → n ∈ ns → b < g n) → All (λ y. b < y) (map g ns)
+all_above : (g : List ℕ → ℕ) (b : ℕ) (ns : List (List ℕ)) → ((n : List ℕ) → n ∈ ns → b < g n) → AllByRecursion (λ y. b < y) (map g ns)
 all_above g b [] above = tt
 all_above g b (n ∷ ns) above = (above n (inl refl), all_above g b ns (λ m m_in. above m (inr m_in)))
 

@@ -1,6 +1,6 @@
 -- A system by names is valid.
 use Rattle.std.proofs.Common.{◌≡◌, ℕ, zero, suc, ◌+◌, ◌*◌, ◌/◌, ◌%◌, ◌^◌, ◌<◌, ◌≤◌, eqb, List, [], ◌∷◌, length, get_or, sym, ap, ◌∙◌, not-suc-le-zero, arith}
-use Rattle.std.specs.List.{AllByRecursion as All}
+use Rattle.std.specs.List.{AllByRecursion}
 use Rattle.std.proofs.lemmas.List.{length-map}
 use Rattle.std.proofs.lemmas.Bool.{cond-true, eq-eqb}
 use Rattle.constraints.specs.Constraint.{kind, offset, left, right, variables, length_of, WellFormed, Valid}
@@ -68,12 +68,12 @@ word_formed es w few lawful =
       object_right = λ is_Address. rw is_right (object_at es w.right lawful.right_in (lawful.object_right (sym is_kind ∙ is_Address)));
     }
 
-sized : (es : List Entry) → All Short es → (i : ℕ) → i < length (blocks es) → (0 < get_or (blocks es) i 0) × (get_or (blocks es) i 0 ≤ 8)
+sized : (es : List Entry) → AllByRecursion Short es → (i : ℕ) → i < length (blocks es) → (0 < get_or (blocks es) i 0) × (get_or (blocks es) i 0 ≤ 8)
 sized [] all i lt = absurd (not-suc-le-zero lt)
 sized (e ∷ es) ((_, _, small), all) zero lt = (omega arith, omega arith)
 sized (e ∷ es) (short, all) (suc i) lt = sized es all i (omega arith)
 
-pub program_valid : (es : List Entry) (ws : List Named) → Program es ws → All Short es → length ws ≤ 512 → Valid (system es ws)
+pub program_valid : (es : List Entry) (ws : List Named) → Program es ws → AllByRecursion Short es → length ws ≤ 512 → Valid (system es ws)
 program_valid es ws program small few_words =
     record {
       sized = sized es small;

@@ -1,6 +1,6 @@
 -- What a text adds to the table and to the counts, where it stands under a number that was free.
 use Rattle.std.specs.Prelude.{◌≡◌, ℕ, suc, ◌+◌, ◌<◌, ◌≤◌, cond, not, ◌&&◌, ◌||◌, List, [], ◌∷◌, ◌++◌, length, Some, None, ◌==◌, nat_lt, slice_index_or, slice_set}
-use Rattle.std.specs.List.{AllByRecursion as All}
+use Rattle.std.specs.List.{AllByRecursion}
 use Rattle.constraints.specs.Constraint.{variables}
 use Rattle.lexemes.specs.Terminals.{Name}
 use Rattle.grammar.specs.declared.item.Linkage.{Linkage}
@@ -50,7 +50,7 @@ abbrev pub Short : Entry → Type 0
 Short e = (0 < length e.name) × (length e.name ≤ 24) × (e.slots ≤ 7)
 
 abbrev pub DeclaredNamesAreShort : Type 0
-DeclaredNamesAreShort = (text : List ℕ) → All Short (declared_in text)
+DeclaredNamesAreShort = (text : List ℕ) → AllByRecursion Short (declared_in text)
 
 -- what the counts of the texts `many` are, which has one text more than `few`
 pub record OneMore (few many : List (List ℕ)) (text : List ℕ) : Type 0 where

@@ -1,6 +1,6 @@
 -- What targets writes: the functions of a row, by rising object, each followed by byte 10.
 use Rattle.std.specs.Prelude.{◌≡◌, ℕ, suc, ◌+◌, ◌<◌, Bool, cond, ◌&&◌, List, [], ◌∷◌, ◌++◌, map, Some, None, Option, nat_lt}
-use Rattle.std.specs.List.{flat_map, AllByRecursion as All, slice_get}
+use Rattle.std.specs.List.{flat_map, AllByRecursion, slice_get}
 use Rattle.grammar.specs.Grammar.{Place}
 use Rattle.units.specs.Words.{Cell}
 use Rattle.units.specs.Statements.{cell}
@@ -21,7 +21,7 @@ functions es row = functions_from 0 es row
 
 abbrev pub Rising : List ℕ → Type 0
 Rising [] = Unit {0}
-Rising (x ∷ xs) = All (λ y. x < y) xs × Rising xs
+Rising (x ∷ xs) = AllByRecursion (λ y. x < y) xs × Rising xs
 
 -- the objects of the listed functions rise, so each is listed once
 abbrev pub TargetsRise : Type 0

@@ -1,6 +1,6 @@
 -- The automaton reads the grammar: what it accepts is a unit, and where it stops no unit goes on. Assumes nothing.
 use Rattle.std.proofs.Common.{◌≡◌, ℕ, ◌≤◌, Bool, true, false, cond, List, [], ◌∷◌, ◌++◌, map, length, Some, None, Ok, Err, Option, Result, sym, refl, ap, ◌∙◌, subst, append_assoc, append-nil, arith}
-use Rattle.std.specs.List.{AllByRecursion as All}
+use Rattle.std.specs.List.{AllByRecursion}
 use Rattle.std.proofs.ByRecursion.{All-append}
 use Rattle.lexemes.specs.Lexemes.{Lexical}
 use Rattle.lexemes.specs.Texts.{first_at}
@@ -47,7 +47,7 @@ goes_on s (x ∷ xs) ys = onward_on (step s x) _ _ ys (λ t. goes_on t xs ys)
 
 -- every state can be completed to an item
 abbrev Completes : (Terminals → Terminals) → Type 0
-Completes f = (i : Item) × Few i × (rest : Terminals) × All Lexical rest × (item i [] ≡ f rest)
+Completes f = (i : Item) × Few i × (rest : Terminals) × AllByRecursion Lexical rest × (item i [] ≡ f rest)
 
 abbrev some_name : Name
 some_name = record { at = 0; bytes = 120 ∷ [] }
@@ -66,7 +66,7 @@ complete_place (pointer t) p h =
 complete_place (argument t c ps) p h =
     (call_item t c (ps ++ p ∷ []), call_few t c _ (one_more ps p 5 h), sign Close ∷ sign Semicolon ∷ [], (tt, (tt, tt)), sym (last_argument t c ps p (sign Semicolon ∷ [])))
 
-complete : (s : State) → FewRead s → (u : List Item) × Legal u × (rest : Terminals) × All Lexical rest × (unit u [] ≡ read s rest)
+complete : (s : State) → FewRead s → (u : List Item) × Legal u × (rest : Terminals) × AllByRecursion Lexical rest × (unit u [] ≡ read s rest)
 complete start h = ([], tt, [], tt, refl)
 complete external h = (variable External some_name ∷ [], (tt, tt), word Var ∷ name some_name ∷ sign Semicolon ∷ [], (tt, (refl, (tt, tt))), refl)
 complete (variable_of e) h = (variable e some_name ∷ [], (tt, tt), name some_name ∷ sign Semicolon ∷ [], (refl, (tt, tt)), refl)
@@ -96,7 +96,7 @@ unit_more (i ∷ u) v rest = ap (item i) (unit_more u v rest)
 
 -- the lexemes ls are those of the items u and then what s has read
 record Sofar (ls : Terminals) (u : List Item) (s : State) : Type 0 where
-  lexical : All Lexical ls
+  lexical : AllByRecursion Lexical ls
   legal : Legal u
   few : FewRead s
   written : (rest : Terminals) → ls ++ rest ≡ unit u (read s rest)
@@ -175,7 +175,7 @@ faulty_step size begin s at l ps (done i) h lex e rec =
     (faulty_later size _ at l ps (parse size (first_at ps) start ps) (rec _ (first_at ps) start (ended_item h l lex i e)))
 faulty_step size begin s at l ps fault h lex e rec = wrong (begins h) (stuck h l lex e)
 
-faulty : (size begin : ℕ) (ls : Terminals) (u : List Item) (s : State) (ps : List Piece) → All LexicalPiece ps → Sofar ls u s → Faulty size ls ps (parse size begin s ps)
+faulty : (size begin : ℕ) (ls : Terminals) (u : List Item) (s : State) (ps : List Piece) → AllByRecursion LexicalPiece ps → Sofar ls u s → Faulty size ls ps (parse size begin s ps)
 faulty size begin ls u s [] lex h = faulty_end size s (is_start s) h refl
 faulty size begin ls u s (stray at ∷ ps) lex h = strange (begins h)
 faulty size begin ls u s (lexeme at l ∷ ps) (here, lex) h = faulty_step size begin s at l ps (step s l) h here refl (λ v b t k. faulty size b _ v t ps lex k)
@@ -234,14 +234,14 @@ refused size (strange begun) w adm = elim w [ ]
 refused size (wrong {ls = ls} {l = l} begun no_more) (one {ls = rest} w) adm = no_more (rest, subst Admitted (sym (append_assoc ls (l ∷ []) rest)) adm)
 refused size (later {ls = ls} {l = l} f) (one {ls = rest} w) adm = refused size f w (subst Admitted (sym (append_assoc ls (l ∷ []) rest)) adm)
 
-pub spells_lexical : {ps : List Piece} {ls : Terminals} → Spells ps ls → All LexicalPiece ps → All Lexical ls
+pub spells_lexical : {ps : List Piece} {ls : Terminals} → Spells ps ls → AllByRecursion LexicalPiece ps → AllByRecursion Lexical ls
 spells_lexical none all = tt
 spells_lexical (one s) (h, all) = (h, spells_lexical s all)
 
-reading : (size : ℕ) (ps : List Piece) (r : Result (List Statement) ℕ) → All LexicalPiece ps → Whole start ps r → Faulty size [] ps r → Reading size ps (items r)
+reading : (size : ℕ) (ps : List Piece) (r : Result (List Statement) ℕ) → AllByRecursion LexicalPiece ps → Whole start ps r → Faulty size [] ps r → Reading size ps (items r)
 reading size ps (Ok ss) lex h k = let (legal, ls, spells, e) = h in (legal, subst (Spells ps) (sym e) spells)
 reading size ps (Err off) lex h k = (k, λ u w. refused size k w.1 (u, w.0, refl, spells_lexical w.1 lex))
 
 -- the grammar is what is recognised
-pub recognised : (size begin : ℕ) (ps : List Piece) → All LexicalPiece ps → Reading size ps (items (parse size begin start ps))
+pub recognised : (size begin : ℕ) (ps : List Piece) → AllByRecursion LexicalPiece ps → Reading size ps (items (parse size begin start ps))
 recognised size begin ps lex = reading size ps (parse size begin start ps) lex (whole size begin start ps tt) (faulty size begin [] [] start ps lex nothing)

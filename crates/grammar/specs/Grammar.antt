@@ -6,7 +6,7 @@
 --   call  = ( name | "(" "*" place ")" ) "(" [ place { "," place } ] ")"      with at most six arguments
 --   place = name [ "." ( "r" | number ) ]
 use Rattle.std.specs.Prelude.{◌≡◌, ℕ, ◌≤◌, List, [], ◌∷◌, ◌++◌, length}
-use Rattle.std.specs.List.{AllByRecursion as All}
+use Rattle.std.specs.List.{AllByRecursion}
 use Rattle.lexemes.specs.declared.lexeme.Sign.TheVariants.{Equals, Ampersand, Star, Open, Close, Comma, Semicolon, Stop}
 use Rattle.lexemes.specs.declared.lexeme.Word.TheVariants.{Var, Fun, Extern}
 use Rattle.lexemes.specs.Terminals.{Name, Terminal, sign, word, name, number}
@@ -110,7 +110,7 @@ Legal (i ∷ is) = Few i × Legal is
 
 -- ls are the lexemes of a unit that a text can have; ls begin such lexemes
 abbrev pub Admitted : List Terminal → Type 0
-Admitted ls = (u : List Item) × Legal u × (unit u [] ≡ ls) × All Lexical ls
+Admitted ls = (u : List Item) × Legal u × (unit u [] ≡ ls) × AllByRecursion Lexical ls
 
 abbrev pub Begins : List Terminal → Type 0
 Begins ls = (rest : List Terminal) × Admitted (ls ++ rest)

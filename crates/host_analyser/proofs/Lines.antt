@@ -1,6 +1,6 @@
 -- Lines written over a buffer, byte by byte and block by block.
 use Rattle.std.proofs.Common.{◌≡◌, ℕ, zero, suc, ◌+◌, ◌<◌, ◌≤◌, Bool, true, false, cond, ◌&&◌, ltb, List, [], ◌∷◌, ◌++◌, length, get_or, take, drop, set, sym, refl, ap, ◌∙◌, subst, ⊎_elim, arith}
-use Rattle.std.specs.List.{flat_map, AllByRecursion as All}
+use Rattle.std.specs.List.{flat_map, AllByRecursion}
 use Rattle.std.proofs.lemmas.List.{take_more, take_all, length-take-le, drop_more, drop_all, length-append, get_or-map, length-map}
 use Rattle.std.proofs.lemmas.Bool.{cases_lt, lt-ltb, le-ltb}
 use Rattle.constraints.specs.Constraint.{System, variables, length_of}
@@ -110,7 +110,7 @@ object_at es i h =
     let long = blocks_length es in
     omega (arith, length_of_start (blocks es) i (blocks_positive es) (omega (arith, long)), blocks_at es i d h)
 
-all_at : {X : Type 0} (P : X → Type 0) (xs : List X) (i : ℕ) (d : X) → All P xs → i < length xs → P (get_or xs i d)
+all_at : {X : Type 0} (P : X → Type 0) (xs : List X) (i : ℕ) (d : X) → AllByRecursion P xs → i < length xs → P (get_or xs i d)
 all_at P [] i d all h = absurd (omega arith)
 all_at P (x ∷ xs) zero d (first, rest) h = first
 all_at P (x ∷ xs) (suc i) d (first, rest) h = all_at P xs i d rest (omega arith)

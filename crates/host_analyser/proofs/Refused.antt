@@ -3,7 +3,7 @@ use Rattle.std.proofs.Common.{◌≡◌, ℕ, Bool, List, map, set, Some, None, 
 use Rattle.engine.specs.Meanings.{Meaning}
 use Rattle.books.specs.Books.{standing, list_of, table, Book as Lawful}
 use Rattle.standing.specs.declared.refusal.UnitRefusal.{UnitRefusal}
-use Rattle.standing.specs.declared.units.StandingUnits.{StandingUnits}
+use Rattle.standing.specs.declared.standing_units.StandingUnits.{StandingUnits}
 use Rattle.standing.specs.Loads.{load_refusal, unload_refusal, load_units, unload_units, unless}
 use Rattle.standing.specs.Lists.{owners_in}
 use Rattle.standing.specs.Refusals.{done_or}

@@ -1,6 +1,6 @@
 -- The target list of a pointer, as it is counted and written.
 use Rattle.std.proofs.Common.{◌≡◌, ℕ, ◌+◌, ◌<◌, ◌≤◌, true, cond, not, ltb, List, [], ◌∷◌, ◌++◌, map, length, get_or, drop, set, is_some, Some, None, Ok, Err, Option, Result, sym, refl, ap, ◌∙◌, subst, append_assoc, arith}
-use Rattle.std.specs.List.{AllByRecursion as All}
+use Rattle.std.specs.List.{AllByRecursion}
 use Rattle.std.proofs.lemmas.Bool.{lt-ltb, le-ltb}
 use Rattle.std.proofs.lemmas.List.{length_push}
 use Rattle.constraints.specs.Constraint.{System}
@@ -34,11 +34,11 @@ use Rattle.host_analyser.specs.declared.analyser.Analyser.{Analyser}
 use Rattle.host_analyser.specs.States.{book_of, SettledRight}
 use Rattle.host_analyser.proofs.Located.{answers_for}
 
-shorter : (es : List Entry) → All Rattle.books.specs.Counts.Short es → All Short es
+shorter : (es : List Entry) → AllByRecursion Rattle.books.specs.Counts.Short es → AllByRecursion Short es
 shorter [] all = tt
 shorter (e ∷ es) (s, all) = (s.1, shorter es all)
 
-pub table_short : (texts : List (List ℕ)) → All Short (table texts)
+pub table_short : (texts : List (List ℕ)) → AllByRecursion Short (table texts)
 unfolding table
 table_short texts = shorter _ (all_distinct Rattle.books.specs.Counts.Short _ (all_short texts))
 

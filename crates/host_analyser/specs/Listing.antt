@@ -1,6 +1,6 @@
 -- What a target list is read off: the table's entries in order, block by block.
 use Rattle.std.specs.Prelude.{◌≡◌, ℕ, ◌<◌, ◌≤◌, Bool, cond, ◌&&◌, List, [], map, length, nat_lt}
-use Rattle.std.specs.List.{AllByRecursion as All}
+use Rattle.std.specs.List.{AllByRecursion}
 use Rattle.constraints.specs.Constraint.{System, variables, length_of}
 use Rattle.declarations.specs.Declarations.{Entry}
 use Rattle.books.specs.Books.{Units}
@@ -19,7 +19,7 @@ pub record Tabled (es : List Entry) (sys : System) (units : Units) (list : Syste
   pub held : sys.blocks ≡ blocks es
   pub laid : list.blocks ≡ blocks es
   pub owned : map (owned_name units) owners ≡ map name_in_entry es
-  pub short : All Short es
+  pub short : AllByRecursion Short es
   pub few : variables (blocks es) ≤ 256
 
 -- the line of a block, if it is a function's and the row has its object

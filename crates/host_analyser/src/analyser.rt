@@ -11,7 +11,7 @@ use crate::refusal::Refusal;
 use crate::settling::settle_list;
 use engine::Engine;
 use standing::list::UnitList;
-use standing::units::StandingUnits;
+use standing::standing_units::StandingUnits;
 
 // The standing units, their list as it was last laid out, and the engine that it is handed to. All memory is taken at
 // making: no call allocates.

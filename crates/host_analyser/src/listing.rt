@@ -12,7 +12,7 @@ ghost use Rattle.host_analyser.specs.Listing.{Tabled, BlockAnswers, target_line}
 use crate::asking::has_object;
 use engine::Engine;
 use standing::list::UnitList;
-use standing::units::StandingUnits;
+use standing::standing_units::StandingUnits;
 
 // No name is longer.
 const LONGEST_NAME: usize = 24;

@@ -9,7 +9,7 @@ ghost use Rattle.host_analyser.specs.Settling.{Locates, HandsDown};
 use crate::refusal::RoomFault;
 use engine::{Engine, EngineFault, hand_down};
 use standing::list::UnitList;
-use standing::units::StandingUnits;
+use standing::standing_units::StandingUnits;
 
 // Clears the engine, hands it the list and settles it.
 fn settle_engine<E: Engine>(engine: &mut E, list: &UnitList) -> Result<(), EngineFault>

@@ -1,7 +1,7 @@
 -- Every lexeme of a text is a sign, a reserved word, a name or a number as the rules have them. Assumes nothing.
 use Rattle.std.proofs.Common.{◌≡◌, ℕ, zero, suc, ◌+◌, ◌-◌, ◌≤◌, Bool, true, false, cond, not, ◌&&◌, leb, List, [], ◌∷◌, length, take, drop, Some, None, Option, refl, ap, arith}
 use Rattle.std.specs.Char.{is_ascii_digit}
-use Rattle.std.specs.List.{AllByRecursion as All}
+use Rattle.std.specs.List.{AllByRecursion}
 use Rattle.std.proofs.lemmas.List.{length-take}
 use Rattle.std.proofs.lemmas.Bool.{cond_both, leb-true, le-leb, and_parts, and_from}
 use Rattle.lexemes.specs.declared.class.Class.{Class}
@@ -20,7 +20,7 @@ abbrev IfAny : Option Terminal → Type 0
 IfAny (Some l) = Lexical l
 IfAny None = Unit {0}
 
-found_lexical : (at : ℕ) (o : Option Terminal) (rest : List Piece) → IfAny o → All LexicalPiece rest → All LexicalPiece (found at o rest)
+found_lexical : (at : ℕ) (o : Option Terminal) (rest : List Piece) → IfAny o → AllByRecursion LexicalPiece rest → AllByRecursion LexicalPiece (found at o rest)
 found_lexical at (Some l) rest h all = (h, all)
 found_lexical at None rest h all = (tt, tt)
 
@@ -67,17 +67,17 @@ signed_lexical : (o : Option Sign) → IfAny (signed o)
 signed_lexical (Some s) = tt
 signed_lexical None = tt
 
-begun_lexical : (c : Class) (at b : ℕ) (bs : List ℕ) (rest : ℕ → List Piece) → Lettered b c → ((k : ℕ) → All LexicalPiece (rest k)) → All LexicalPiece (begun c at b bs rest)
+begun_lexical : (c : Class) (at b : ℕ) (bs : List ℕ) (rest : ℕ → List Piece) → Lettered b c → ((k : ℕ) → AllByRecursion LexicalPiece (rest k)) → AllByRecursion LexicalPiece (begun c at b bs rest)
 begun_lexical Blank at b bs rest is all = all 0
 begun_lexical Letter at b bs rest is all = found_lexical at (word_at at b bs) (rest (run bs)) (word_lexical at b bs (is refl)) (all (run bs))
 begun_lexical Digit at b bs rest is all = found_lexical at (number_at b bs) (rest 0) (number_lexical b bs) (all 0)
 begun_lexical Signs at b bs rest is all = found_lexical at (sign_at b) (rest 0) (signed_lexical (sign_of b)) (all 0)
 begun_lexical Other at b bs rest is all = (tt, tt)
 
-pieces_lexical : (at busy : ℕ) (bs : List ℕ) → All LexicalPiece (pieces at busy bs)
+pieces_lexical : (at busy : ℕ) (bs : List ℕ) → AllByRecursion LexicalPiece (pieces at busy bs)
 pieces_lexical at busy [] = tt
 pieces_lexical at zero (b ∷ bs) = begun_lexical (class_of b) at b bs (λ k. pieces (at + 1) k bs) (letter_class b) (λ k. pieces_lexical (at + 1) k bs)
 pieces_lexical at (suc busy) (b ∷ bs) = pieces_lexical (at + 1) busy bs
 
-pub text_lexical : (text : List ℕ) (at : ℕ) → All LexicalPiece (pieces_from text at)
+pub text_lexical : (text : List ℕ) (at : ℕ) → AllByRecursion LexicalPiece (pieces_from text at)
 text_lexical text at = pieces_lexical at 0 (drop at text)

@@ -17,7 +17,7 @@ use Rattle.books.proofs.Counts.{stood_there}
 use Rattle.standing.specs.declared.refusal.UnitRefusal.{UnitRefusal}
 use Rattle.standing.specs.declared.refusal.UnitRefusal.TheVariants.{NoSuchUnit, NothingStands, NoSuchCall}
 use Rattle.standing.specs.declared.slot.Slot.{Slot}
-use Rattle.standing.specs.declared.units.StandingUnits.{StandingUnits}
+use Rattle.standing.specs.declared.standing_units.StandingUnits.{StandingUnits}
 use Rattle.standing.specs.Loads.{stands}
 use Rattle.standing.specs.Calls.{call_refusal}
 use Rattle.standing.specs.Slots.{text_or_none}

@@ -1,6 +1,6 @@
 -- What entering the declarations of a text leaves in the table of names, name by name.
 use Rattle.std.proofs.Common.{◌≡◌, ℕ, suc, ◌+◌, ◌<◌, ◌≤◌, Bool, true, false, cond, not, ◌&&◌, ◌||◌, eqb, ltb, leb, List, [], ◌∷◌, length, is_ok, Some, None, Ok, Err, Option, sym, refl, ap, ◌∙◌, arith}
-use Rattle.std.specs.List.{flat_map, AllByRecursion as All}
+use Rattle.std.specs.List.{flat_map, AllByRecursion}
 use Rattle.std.specs.Str.{bytes_eq}
 use Rattle.std.proofs.lemmas.Bool.{and_parts, and_from, le-leb, leb-true, leb-false, ltb-false, lt-ltb, le-ltb, ne_eqb, eq-eqb, not_from_false, false≢true, cond-true, cond-false}
 use Rattle.lexemes.specs.Terminals.{Name}
@@ -165,7 +165,7 @@ pub data Outcome (t : Known) (es : List Entry) (ds : List Mention) : Bool → Ty
   too_many : 256 < t.variables + fresh es (flat_map entry ds) → Outcome t es ds false
 
 module _ (es : List Entry) where
-  pub outcome : (t : Known) (ds : List Mention) → Once (flat_map entry ds) → All Short (flat_map entry ds) → Sized t.known es (flat_map entry ds) → t.variables ≤ 256
+  pub outcome : (t : Known) (ds : List Mention) → Once (flat_map entry ds) → AllByRecursion Short (flat_map entry ds) → Sized t.known es (flat_map entry ds) → t.variables ≤ 256
       → Outcome t es ds (fit_all t ds)
   outcome t [] once short sized few = all_fit (omega arith) few
   outcome t (uses p ∷ ds) once short sized few = again (outcome t ds once short sized few)

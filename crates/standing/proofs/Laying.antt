@@ -1,6 +1,6 @@
 -- A text's names, and those of all standing units, laid out.
 use Rattle.std.proofs.Common.{◌≡◌, ℕ, zero, suc, ◌+◌, ◌<◌, ◌≤◌, Bool, true, false, cond, eqb, List, [], ◌∷◌, ◌++◌, length, get_or, take, drop, Some, None, Option, sym, refl, ap, ◌∙◌, subst, inl, inr, append_assoc, add-one, arith}
-use Rattle.std.specs.List.{flat_map, AllByRecursion as All}
+use Rattle.std.specs.List.{flat_map, AllByRecursion}
 use Rattle.std.specs.Str.{bytes_eq}
 use Rattle.std.proofs.lemmas.List.{append-nil}
 use Rattle.std.proofs.lemmas.Bool.{cond-true, cond-false}
@@ -138,7 +138,7 @@ module _ (units : Units) (u : ℕ) (t : List ℕ) (known : List ℕ → Option N
       let entries = (all_declarations t).entries in
       record {
         once = subst Once entries (declared_once t (texts.book.faultless t (stood_there units u t there)));
-        short = subst (All Short) entries (names_are_short t);
+        short = subst (AllByRecursion Short) entries (names_are_short t);
         sizes = subst (λ (es : List Entry). (n : List ℕ) → 0 < size_of es n → size_in (known n) ≡ size_of es n) entries
             (λ n lt. knows.sizes n ∙ text_grows (standing units) texts.book.agreed t (stood_there units u t there) n lt);
         room = subst (λ (es : List Entry). variables (blocks es) ≤ 256) (sym table_more)

@@ -1,6 +1,6 @@
 -- The words of the standing units, one unit after another.
 use Rattle.std.proofs.Common.{◌≡◌, ℕ, zero, suc, ◌+◌, ◌<◌, ◌≤◌, List, [], ◌∷◌, ◌++◌, map, length, get_or, take, set, Some, None, Option, sym, refl, ap, ◌∙◌, inl, inr, append_assoc, arith}
-use Rattle.std.specs.List.{flat_map, AllByRecursion as All}
+use Rattle.std.specs.List.{flat_map, AllByRecursion}
 use Rattle.std.proofs.lemmas.List.{append-nil, length-append, length-map, length-set, take_more_set}
 use Rattle.std.proofs.lemmas.Bool.{lt-ltb, cond-true}
 use Rattle.constraints.specs.Constraint.{System, variables}
@@ -100,29 +100,29 @@ module _ (es : List Entry) (known : List ℕ → Option Note) (few : variables (
       word_of_parts : ℕ → ℕ → ℕ
       word_of_parts p q = constraint-word w.kind p w.offset q
 
-  words_same : (ws : List Named) → All (Lawful es) ws → map (word (λ n. first_at (known n))) ws ≡ map (word (first_of es)) ws
+  words_same : (ws : List Named) → AllByRecursion (Lawful es) ws → map (word (λ n. first_at (known n))) ws ≡ map (word (first_of es)) ws
   words_same [] all = refl
   words_same (w ∷ ws) (lawful, all) = ap₂ (word_same w lawful) (words_same ws all)
     where
       ap₂ : {x y : ℕ} {xs ys : List ℕ} → x ≡ y → xs ≡ ys → x ∷ xs ≡ y ∷ ys
       ap₂ e h = cc
 
-  statements_same : (u : ℕ) (ss : List Statement) → All (Lawful es) (flat_map words_at ss) → flat_map (listed (λ n. first_at (known n)) u) ss ≡ flat_map (listed (first_of es) u) ss
+  statements_same : (u : ℕ) (ss : List Statement) → AllByRecursion (Lawful es) (flat_map words_at ss) → flat_map (listed (λ n. first_at (known n)) u) ss ≡ flat_map (listed (first_of es) u) ss
   statements_same u [] all = refl
   statements_same u (s ∷ ss) all =
       let (own, rest) = all_parts (Lawful es) (words_at s) (flat_map words_at ss) all in
       ap (λ (ws : List ℕ). map (tagged u s.at) ws ++ flat_map (listed (λ n. first_at (known n)) u) ss) (words_same (words_at s) own)
       ∙ ap (λ (ls : List ListedWord). map (tagged u s.at) (map (word (first_of es)) (words_at s)) ++ ls) (statements_same u ss rest)
     where
-      all_parts : {X : Type 0} (P : X → Type 0) (xs ys : List X) → All P (xs ++ ys) → All P xs × All P ys
+      all_parts : {X : Type 0} (P : X → Type 0) (xs ys : List X) → AllByRecursion P (xs ++ ys) → AllByRecursion P xs × AllByRecursion P ys
       all_parts P [] ys h = (tt, h)
       all_parts P (x ∷ xs) ys (p, h) = let (a, b) = all_parts P xs ys h in ((p, a), b)
 
-  listing_same : (u : ℕ) (t : List ℕ) → All (Lawful es) (words_in t) → listing (λ n. first_at (known n)) u t ≡ listing (first_of es) u t
+  listing_same : (u : ℕ) (t : List ℕ) → AllByRecursion (Lawful es) (words_in t) → listing (λ n. first_at (known n)) u t ≡ listing (first_of es) u t
   unfolding listing words_in
   listing_same u t all = statements_same u (statements_in t) all
 
-  pub units_same : (u : ℕ) (us : Units) → ((t : List ℕ) → t ∈ standing us → All (Lawful es) (words_in t))
+  pub units_same : (u : ℕ) (us : Units) → ((t : List ℕ) → t ∈ standing us → AllByRecursion (Lawful es) (words_in t))
       → listing_from (λ n. first_at (known n)) u us ≡ listing_from (first_of es) u us
   units_same u [] all = refl
   units_same u (None ∷ us) all = units_same (u + 1) us all

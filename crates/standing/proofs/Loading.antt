@@ -1,6 +1,6 @@
 -- The table of names with a text more: its names are known, or they have too many variables.
 use Rattle.std.proofs.Common.{◌≡◌, ℕ, suc, ◌+◌, ◌<◌, ◌≤◌, Bool, true, false, cond, ◌||◌, ltb, List, [], ◌∷◌, map, length, get_or, set, Some, None, Option, sym, refl, ap, ◌∙◌, subst, arith}
-use Rattle.std.specs.List.{flat_map, AllByRecursion as All}
+use Rattle.std.specs.List.{flat_map, AllByRecursion}
 use Rattle.std.specs.Str.{bytes_eq}
 use Rattle.std.proofs.lemmas.Bool.{lt-ltb, le-ltb, ltb-true, ltb-false, cond-true, cond-false, false≢true}
 use Rattle.constraints.specs.Constraint.{variables}
@@ -148,7 +148,7 @@ module _ (units : Units) (u : ℕ) (text : List ℕ) (t : NameTable) (inside : u
   loaded : Loaded t text (standing (set units u (Some text))) (fit_all (known_in t) (declarations_in text))
   unfolding too_many_variables
   loaded = go (fit_all (known_in t) (declarations_in text)) refl
-      (outcome (table (standing units)) (known_in t) (declarations_in text) once (subst (All Short) entries (names_are_short text)) (λ n lt. knows.sizes n) (omega (arith, book.few, counted)))
+      (outcome (table (standing units)) (known_in t) (declarations_in text) once (subst (AllByRecursion Short) entries (names_are_short text)) (λ n lt. knows.sizes n) (omega (arith, book.few, counted)))
     where
       counted : variables_of t ≡ variables (blocks (table (standing units)))
       counted = counted_variables t (standing units) knows

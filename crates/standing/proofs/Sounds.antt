@@ -17,7 +17,7 @@ use Rattle.standing.specs.declared.held.HeldUnits.{HeldUnits}
 use Rattle.standing.specs.declared.slot.Slot.{Slot}
 use Rattle.std.proofs.lemmas.Bool.{true≢false}
 use Rattle.standing.specs.declared.refusal.UnitRefusal.{UnitRefusal}
-use Rattle.standing.specs.declared.units.StandingUnits.{StandingUnits}
+use Rattle.standing.specs.declared.standing_units.StandingUnits.{StandingUnits}
 use Rattle.standing.specs.Firsts.{first_in, laid_first}
 use Rattle.standing.specs.Loads.{unless}
 use Rattle.standing.specs.Refusals.{done_or}

@@ -1,6 +1,6 @@
 -- Names laid out, one block after another.
 use Rattle.std.specs.Prelude.{◌≡◌, ℕ, suc, ◌<◌, ◌≤◌, true, cond, List, [], ◌∷◌, ◌++◌, map, length, is_ok, Option, ◌==◌}
-use Rattle.std.specs.List.{flat_map, AllByRecursion as All}
+use Rattle.std.specs.List.{flat_map, AllByRecursion}
 use Rattle.constraints.specs.Constraint.{variables}
 use Rattle.grammar.specs.Units.{outcome, read}
 use Rattle.declarations.specs.Declarations.{Entry, size_of, Mention, declares, uses, calls, entry}
@@ -51,7 +51,7 @@ pub record Fits (units : Units) (es : List Entry) (e : Entry) (owner : Owner) (n
 -- a text's declarations can be laid out: each name once, known with its slots, and there is room
 pub record Layable (es : List Entry) (ds : List Mention) (known : List ℕ → Option Note) : Type 0 where
   pub once : Once (flat_map entry ds)
-  pub short : All Short (flat_map entry ds)
+  pub short : AllByRecursion Short (flat_map entry ds)
   pub sizes : (n : List ℕ) → 0 < size_of (flat_map entry ds) n → size_in (known n) ≡ size_of (flat_map entry ds) n
   pub room : variables (blocks (lay_all es ds)) ≤ 256
 

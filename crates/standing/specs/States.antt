@@ -8,7 +8,7 @@ use Rattle.books.specs.Tables.{number, slot}
 use Rattle.standing.specs.declared.refusal.UnitRefusal.{UnitRefusal}
 use Rattle.standing.specs.declared.refusal.UnitRefusal.TheVariants.{NoSuchCall}
 use Rattle.standing.specs.declared.list.Owner.{Owner}
-use Rattle.standing.specs.declared.units.StandingUnits.{StandingUnits}
+use Rattle.standing.specs.declared.standing_units.StandingUnits.{StandingUnits}
 use Rattle.standing.specs.Firsts.{first_in, laid_first}
 use Rattle.standing.specs.Calls.{call_refusal, call_pointer}
 use Rattle.standing.specs.Knowledge.{texts_in}

@@ -10,4 +10,4 @@ mod passes;
 mod place;
 pub mod refusal;
 mod slot;
-pub mod units;
+pub mod standing_units;

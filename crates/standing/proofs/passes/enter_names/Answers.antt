@@ -1,5 +1,5 @@
 use Rattle.std.proofs.Common.{sym, refl, ◌∙◌, subst}
-use Rattle.std.specs.List.{AllByRecursion as All}
+use Rattle.std.specs.List.{AllByRecursion}
 use Rattle.std.proofs.lemmas.Bool.{false≢true}
 use Rattle.declarations.proofs.Kept.{all_declarations}
 use Rattle.books.specs.Counts.{Short}
@@ -9,7 +9,7 @@ use Rattle.standing.proofs.Steps.{err_not_ok, fit_more, enter_more, fit_no_more}
 use Rattle.standing.proofs.passes.enter_names.Goals as goal
 
 pub loop-found-init : goal.loop-found-init
-loop-found-init c = rest_all c.args.text.now _ c.requires (subst (All Short) (all_declarations c.args.text.now).entries (names_are_short c.args.text.now), refl, refl)
+loop-found-init c = rest_all c.args.text.now _ c.requires (subst (AllByRecursion Short) (all_declarations c.args.text.now).entries (names_are_short c.args.text.now), refl, refl)
 
 pub loop-found-preserved : goal.loop-found-preserved
 loop-found-preserved c =

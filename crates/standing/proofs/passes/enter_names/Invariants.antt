@@ -1,5 +1,5 @@
 use Rattle.std.proofs.Common.{◌≡◌, ◌-◌, length}
-use Rattle.std.specs.List.{flat_map, AllByRecursion as All}
+use Rattle.std.specs.List.{flat_map, AllByRecursion}
 use Rattle.declarations.specs.Declarations.{entry, declarations_in}
 use Rattle.books.specs.Counts.{Short}
 use Rattle.standing.specs.Passes.{known_in, enter_all, fit_all}
@@ -9,7 +9,7 @@ use Rattle.standing.proofs.passes.enter_names.Given as goal
 abbrev pub invariant-loop-found : goal.invariant-loop-found
 invariant-loop-found l =
     Rest l.text l.at (λ ds.
-    All Short (flat_map entry ds)
+    AllByRecursion Short (flat_map entry ds)
     × (fit_all (known_in l.initial.names) (declarations_in l.text) ≡ fit_all (known_in l.names) ds)
     × (enter_all (known_in l.initial.names) (declarations_in l.text) ≡ enter_all (known_in l.names) ds))
 

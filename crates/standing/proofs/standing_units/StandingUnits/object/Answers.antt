@@ -8,7 +8,7 @@ use Rattle.books.specs.Replies.{known_name, name_in}
 use Rattle.standing.specs.States.{units_of, object_number}
 use Rattle.standing.proofs.Sounds.{is_sound}
 use Rattle.standing.proofs.Answering.{places_of, name_number}
-use Rattle.standing.proofs.units.StandingUnits.object.Goals as goal
+use Rattle.standing.proofs.standing_units.StandingUnits.object.Goals as goal
 
 pub returns-in-Some : goal.returns-in-Some
 unfolding name_in

@@ -6,7 +6,7 @@ use Rattle.books.specs.Replies.{known_cell, place_among}
 use Rattle.standing.specs.States.{units_of, cell_number}
 use Rattle.standing.proofs.Sounds.{is_sound}
 use Rattle.standing.proofs.Answering.{places_of, place_number}
-use Rattle.standing.proofs.units.StandingUnits.place.Goals as goal
+use Rattle.standing.proofs.standing_units.StandingUnits.place.Goals as goal
 
 pub returns-in-Some : goal.returns-in-Some
 unfolding place_among

@@ -2,7 +2,7 @@ use Rattle.std.proofs.Common.{ℕ, ◌<◌, List, length, ap, ◌∙◌, arith}
 use Rattle.lexemes.specs.Lines.{line_of}
 use Rattle.standing.proofs.Sounds.{is_sound}
 use Rattle.standing.proofs.Answering.{text_of, nothing_past}
-use Rattle.standing.proofs.units.StandingUnits.line.Goals as goal
+use Rattle.standing.proofs.standing_units.StandingUnits.line.Goals as goal
 
 pub returns-then-unit-gt-LAST_UNIT : goal.returns-then-unit-gt-LAST_UNIT
 returns-then-unit-gt-LAST_UNIT c = λ t there.

@@ -1,4 +1,4 @@
-use Rattle.standing.proofs.units.StandingUnits.new.Goals as goal
+use Rattle.standing.proofs.standing_units.StandingUnits.new.Goals as goal
 
 pub invariant_of-result : goal.invariant_of-result
 invariant_of-result c = record { sound = ∣ c.new.ensures.sound ∣₁ }

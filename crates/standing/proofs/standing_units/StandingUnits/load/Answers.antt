@@ -1,5 +1,5 @@
 use Rattle.standing.proofs.Sounds.{is_sound, still_laid_out}
-use Rattle.standing.proofs.units.StandingUnits.load.Goals as goal
+use Rattle.standing.proofs.standing_units.StandingUnits.load.Goals as goal
 
 pub load-requires : goal.load-requires
 load-requires c = is_sound c.args.self.now.sound

@@ -5,7 +5,7 @@ use Rattle.standing.specs.Knowledge.{texts_in}
 use Rattle.standing.specs.Firsts.{laid_first}
 use Rattle.standing.specs.States.{LaidOut}
 use Rattle.standing.proofs.Sounds.{is_sound}
-use Rattle.standing.proofs.units.StandingUnits.lay_out.Goals as goal
+use Rattle.standing.proofs.standing_units.StandingUnits.lay_out.Goals as goal
 
 pub lay_out-requires : goal.lay_out-requires
 lay_out-requires c = is_sound c.args.self.now.sound

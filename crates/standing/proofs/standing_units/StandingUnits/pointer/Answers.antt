@@ -4,7 +4,7 @@ use Rattle.standing.specs.States.{units_of}
 use Rattle.standing.proofs.Sounds.{is_sound}
 use Rattle.standing.proofs.Accepting.{stands_is, text_at}
 use Rattle.standing.proofs.Answering.{places_of, pointer_outside, pointer_nothing, pointer_answer}
-use Rattle.standing.proofs.units.StandingUnits.pointer.Goals as goal
+use Rattle.standing.proofs.standing_units.StandingUnits.pointer.Goals as goal
 
 pub returns-then-u-gt-LAST_UNIT : goal.returns-then-u-gt-LAST_UNIT
 returns-then-u-gt-LAST_UNIT c =

@@ -1,5 +1,5 @@
 use Rattle.standing.proofs.Sounds.{is_sound, still_laid_out}
-use Rattle.standing.proofs.units.StandingUnits.unload.Goals as goal
+use Rattle.standing.proofs.standing_units.StandingUnits.unload.Goals as goal
 
 pub unload-requires : goal.unload-requires
 unload-requires c = is_sound c.args.self.now.sound

@@ -5,7 +5,7 @@ use Rattle.standing.specs.States.{bytes_in}
 use Rattle.standing.proofs.Sounds.{is_sound}
 use Rattle.standing.proofs.Refusing.{none_stands}
 use Rattle.standing.proofs.Accepting.{stands_is, text_at}
-use Rattle.standing.proofs.units.StandingUnits.name_at.Goals as goal
+use Rattle.standing.proofs.standing_units.StandingUnits.name_at.Goals as goal
 
 pub returns-then-owner-gt-LAST_UNIT : goal.returns-then-owner-gt-LAST_UNIT
 returns-then-owner-gt-LAST_UNIT c =
