@@ -12,4 +12,4 @@ pub struct StandingUnits {
 
 mod layout;
 mod loads;
-mod questions;
+mod question_calls;
