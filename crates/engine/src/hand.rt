@@ -13,7 +13,7 @@ fn hand_blocks<E: Engine>(below: &mut E, blocks: &[u8]) -> Result<(), EngineFaul
     requires sized { (i : ℕ) → i < length blocks.now → (0 < slice_index blocks.now i) × (slice_index blocks.now i ≤ 8) }
     requires few { variables blocks.now ≤ 256 }
     ensures done { result ≡ Ok tt }
-    ensures after { E.meaning below.new ≡ gathering (E.meaning below.old) (record { blocks = blocks.entry.now; words = [] }) }
+    ensures after { E.meaning below.new ≡ gathering (E.meaning below.old) (record { blocks = blocks.now; words = [] }) }
     ensures keeps { E.sound below.new }
 {
     for i in 0..blocks.len() {
@@ -28,7 +28,7 @@ fn hand_words<E: Engine>(below: &mut E, blocks: &[u8], words: &[u32]) -> Result<
     requires fresh { E.meaning below.old ≡ gathering (E.meaning below.old) (record { blocks = blocks.now; words = [] }) }
     requires valid { Valid (record { blocks = blocks.now; words = words.now }) }
     ensures done { result ≡ Ok tt }
-    ensures after { E.meaning below.new ≡ gathering (E.meaning below.old) (record { blocks = blocks.entry.now; words = words.now }) }
+    ensures after { E.meaning below.new ≡ gathering (E.meaning below.old) (record { blocks = blocks.now; words = words.now }) }
     ensures keeps { E.sound below.new }
 {
     for i in 0..words.len() {
@@ -41,7 +41,7 @@ fn hand_words<E: Engine>(below: &mut E, blocks: &[u8], words: &[u32]) -> Result<
 pub fn hand_down<E: Engine>(below: &mut E, blocks: &[u8], words: &[u32]) -> Result<(), EngineFault>
     requires { Valid (record { blocks = blocks.now; words = words.now }) }
     ensures done { result ≡ Ok tt }
-    ensures after { E.meaning below.new ≡ gathering (E.meaning below.old) (record { blocks = blocks.entry.now; words = words.now }) }
+    ensures after { E.meaning below.new ≡ gathering (E.meaning below.old) (record { blocks = blocks.now; words = words.now }) }
     ensures keeps { E.sound below.new }
 {
     below.clear();

@@ -16,7 +16,7 @@ use names::{NOWHERE, NameTable};
 // Gives the name the next block, unless it has one.
 fn place_name(names: &mut NameTable, name: &[u8], owner: Owner, list: &mut UnitList)
     ensures same { SameNotes (notes names.old) (notes names.new) }
-    ensures laid { (units : Units) (es : List Entry) (k : ℕ) → Fits units es (record { name = name.entry.now; slots = k }) owner (notes names.old name.entry.now) → Laid units es (notes names.old) list.old → Laid units (lay_entry es (record { name = name.entry.now; slots = k })) (notes names.new) list.new }
+    ensures laid { (units : Units) (es : List Entry) (k : ℕ) → Fits units es (record { name = name.now; slots = k }) owner (notes names.old name.now) → Laid units es (notes names.old) list.old → Laid units (lay_entry es (record { name = name.now; slots = k })) (notes names.new) list.new }
 {
     if let Some(note) = names.find(name) {
         if note.first == NOWHERE {
