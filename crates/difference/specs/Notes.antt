@@ -1,4 +1,4 @@
--- Notes follow one another, and a put with its pair pending is one.
+-- Notes of rows that stay, notes that follow one another, and a put with its pair pending.
 use Rattle.std.specs.Prelude.{◌≡◌, ℕ, ◌<◌, false, refl}
 use Rattle.std.proofs.Common.{◌∙◌, inl, inr, ⊎_elim, arith}
 use Rattle.constraints.specs.Rows.{Rows, with_pair}
@@ -9,6 +9,9 @@ use Rattle.difference.specs.Queue.{Pushed, Noted, Counted}
 
 pub counted_then : (n m : ℕ) (P P' : Rows) (q q' : Pending) → Counted P q → Noted n m P P' q q' → Counted P' q'
 counted_then n m P P' q q' counted a = omega (arith, counted, a.counts)
+
+pub noted_still : (n : ℕ) (P : Rows) (q : Pending) → Noted n n P P q q
+noted_still n P q = record { same = refl; grows = λ v o h. h; held = λ h. h; new = λ v o t. inl t; stays = λ v o h. h; head = refl; counts = refl }
 
 pub noted_then : (n m l : ℕ) (P P' P'' : Rows) (q q' q'' : Pending) → Noted n m P P' q q' → Noted m l P' P'' q' q'' → Noted n l P P'' q q''
 noted_then n m l P P' P'' q q' q'' a b =

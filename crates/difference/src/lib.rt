@@ -10,8 +10,7 @@ ghost use Rattle.constraints.specs.Lists.{system_of, no_words};
 ghost use Rattle.walks.specs.Grown.{Grown, Any};
 ghost use Rattle.solvers.specs.Taking.{solver_meaning, Solved};
 ghost use Rattle.difference.specs.Queue.{Noted, Counted, Ready, Idle};
-ghost use Rattle.difference.specs.Notes.{noted_then, counted_then};
-ghost use Rattle.std.proofs.Common.{rules};
+ghost use Rattle.difference.specs.Notes.{noted_still, noted_then, counted_then};
 
 use constraints::{Constraint, ConstraintList};
 use pending::Pending;
@@ -35,7 +34,7 @@ impl<S: RowStore> Grower for Difference<S> {
 
     ghost notes = { λ sys d e. (Counted (S.RowStore.pairs d.store) d.pending → Noted d.taken e.taken (S.RowStore.pairs d.store) (S.RowStore.pairs e.store) d.pending e.pending) };
 
-    ghost still = { Prim.search rules };
+    ghost still = { λ sys d counted. noted_still d.taken (S.RowStore.pairs d.store) d.pending };
 
     ghost onward = { λ sys s t u a b counted. noted_then _ _ _ _ _ _ _ _ _ (a counted) (b (counted_then _ _ _ _ _ _ counted (a counted))) };
 

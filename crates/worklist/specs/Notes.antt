@@ -1,4 +1,4 @@
--- Notes follow one another, and a put with its marks is one.
+-- Notes of rows that stay, notes that follow one another, and a put with its marks.
 use Rattle.std.specs.Prelude.{◌≡◌, ℕ, ◌<◌, Bool, false, refl}
 use Rattle.std.proofs.Common.{◌∙◌, inl, inr, ⊎_elim, arith}
 use Rattle.std.proofs.lemmas.Bool.{cases_Bool, both_ways}
@@ -8,6 +8,10 @@ use Rattle.constraints.proofs.Rows.{total_mono}
 use Rattle.rows.proofs.Counts.{total_with}
 use Rattle.walks.proofs.Puts.{new_grows, new_only}
 use Rattle.worklist.specs.Waits.{reads, Marks, Noted}
+
+pub noted_still : (sys : System) (n : ℕ) (P : Rows) (W : ℕ → Bool) → Noted sys n n P P W W
+noted_still sys n P W =
+    record { same = refl; grows = λ v o h. h; waits = λ j h. h; inside = λ j h. inl h; kept = λ j h j_in. inr (λ v o r p. p); moves = inr (λ j. refl) }
 
 pub noted_then : (sys : System) (n m l : ℕ) (P P' P'' : Rows) (W W' W'' : ℕ → Bool)
     → Noted sys n m P P' W W' → Noted sys m l P' P'' W' W'' → Noted sys n l P P'' W W''

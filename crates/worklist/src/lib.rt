@@ -9,8 +9,7 @@ ghost use Rattle.constraints.specs.Lists.{system_of, no_words};
 ghost use Rattle.walks.specs.Grown.{Grown, Any};
 ghost use Rattle.solvers.specs.Taking.{solver_meaning, Solved};
 ghost use Rattle.worklist.specs.Waits.{waits, reads, Marks, Noted, Ready, Idle};
-ghost use Rattle.worklist.specs.Notes.{noted_then};
-ghost use Rattle.std.proofs.Common.{rules};
+ghost use Rattle.worklist.specs.Notes.{noted_still, noted_then};
 
 use constraints::{Constraint, ConstraintList};
 use rows::{Added, RowStore, StoreFault};
@@ -60,7 +59,7 @@ impl<S: RowStore> Grower for Worklist<S> {
 
     ghost notes = { λ sys w u. Noted sys w.taken u.taken (S.RowStore.pairs w.store) (S.RowStore.pairs u.store) (waits w.waiting) (waits u.waiting) };
 
-    ghost still = { Prim.search rules };
+    ghost still = { λ sys w. noted_still sys w.taken (S.RowStore.pairs w.store) (waits w.waiting) };
 
     ghost onward = { λ sys s t u a b. noted_then sys _ _ _ _ _ _ _ _ _ a b };
 
