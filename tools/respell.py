@@ -1,7 +1,7 @@
 #!/usr/bin/env python3
 """Spells the repository's own names anew: functions and lemmas in snake case, types in upper camel case.
 
-usage: python3 tools/respell.py [ROOT]      after port.py, once, over crates/ (out/ aside) and docs/
+usage: python3 tools/respell.py [ROOT]      after port.py, once, over crates/ (out/ aside) and docs/ (PORT.md, which has the old names, aside)
 
 Names are the rows of respell.tsv beside this script: old, tab, new, and, where a name means another thing in one
 crate, a third column with the crates in which that row holds. Whole words alone turn: in .antt and .rt files outside
@@ -64,7 +64,7 @@ def main(root):
             dirs[:] = sorted(d for d in dirs if d != "out")
             for name in sorted(names):
                 path = os.path.join(folder, name)
-                if not name.endswith(endings) or os.path.islink(path):
+                if not name.endswith(endings) or name == "PORT.md" or os.path.islink(path):
                     continue
                 crate = os.path.relpath(path, os.path.join(root, top)).split(os.sep)[0]
                 rows = {**everywhere, **some.get(crate, {})}

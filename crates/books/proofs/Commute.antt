@@ -60,7 +60,7 @@ loads_commute units u v s t book apart first second =
         faultless = first.faultless;
         no_clash = agrees_clear (standing some) s first.faultless (λ x x_in.
             elim (stood units v t x x_in) [
-              | inl is-t ↦ rw is-t (agree_back s t (clear_agrees (standing one) t s second.no_clash (enters units u s first.number_in)))
+              | inl is_t ↦ rw is_t (agree_back s t (clear_agrees (standing one) t s second.no_clash (enters units u s first.number_in)))
               | inr h ↦ clear_agrees (standing units) s x first.no_clash h
             ]);
         variables_in = rw swap second.variables_in;

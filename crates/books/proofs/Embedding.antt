@@ -54,14 +54,14 @@ counterpart V many (suc (suc (suc k))) o p q p' q' l r h = (p', q', l, r, h)
 
 module _ (es fs : List Entry) (ws us : List Named) (few : Program es ws) (many : Program fs us) (grows : Grows es fs) (sub : ws ⊆ us) where
   one : (v w u : ℕ) → SameCell es fs v w → SameCell es fs v u → w ≡ u
-  one v w u (c, c_in, v_c, w-c) (d, d-in, v-d, u-d) =
-      let (name, slot) = number_unique es c d c_in d-in (sym v_c ∙ v-d) in
-      w-c ∙ (λ i. first_of fs (name i) + slot i) ∙ sym u-d
+  one v w u (c, c_in, v_c, w_c) (d, d_in, v_d, u_d) =
+      let (name, slot) = number_unique es c d c_in d_in (sym v_c ∙ v_d) in
+      w_c ∙ (λ i. first_of fs (name i) + slot i) ∙ sym u_d
 
   -- a block of the one at a cell's number: the cell is a name's own, and the block is in the other
   own_block : (o o' k : ℕ) → SameCell es fs o o' → k < length_of (blocks es) o → (k < length_of (blocks fs) o') × SameCell es fs (o + k) (o' + k)
-  own_block o o' k (c, c_in, o-c, o'-c) lt =
-      let in_es : k < cond (eqb c.slot 0) (size_of es c.name) 0 = rw (o-c, length_at es c c_in) at lt in
+  own_block o o' k (c, c_in, o_c, o'-c) lt =
+      let in_es : k < cond (eqb c.slot 0) (size_of es c.name) 0 = rw (o_c, length_at es c c_in) at lt in
       let in_fs = length_at fs c (grown es fs c grows c_in) in
       go c.slot refl (eqb c.slot 0) (eqb-true c.slot 0) (grows c.name (omega arith)) in_es (ap (length_of (blocks fs)) o'-c ∙ in_fs)
     where
@@ -70,7 +70,7 @@ module _ (es fs : List Entry) (ws us : List Named) (few : Program es ws) (many :
           → (k < length_of (blocks fs) o') × SameCell es fs (o + k) (o' + k)
       go s same true own grew k_in e = (
         omega arith,
-        (record { name = c.name; slot = k }, k_in, omega (arith, own refl, same, o-c), omega (arith, own refl, same, o'-c)),
+        (record { name = c.name; slot = k }, k_in, omega (arith, own refl, same, o_c), omega (arith, own refl, same, o'-c)),
       )
       go s same false own grew k_in e = absurd (not-suc-le-zero k_in)
 

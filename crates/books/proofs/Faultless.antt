@@ -117,16 +117,16 @@ module _ (es : List Entry) where
 
   result_lawful : (r : Place) (callee : Callee) (given : List Place) → Within es (cell r)
       → AllByRecursion (Fits es) (call_mentions (record { callee = callee; arguments = given })) → AllByRecursion (Lawful es) (result_words (Some r) callee)
-  result_lawful r (direct f) given r-in (h, fits) = (lawful_copy (cell r) (slot_of f 1) r-in (omega arith), tt)
-  result_lawful r (through p) given r-in (h, fits) = (lawful_load (cell r) (cell p) 1 (omega arith) r-in (use_within p h), tt)
+  result_lawful r (direct f) given r_in (h, fits) = (lawful_copy (cell r) (slot_of f 1) r_in (omega arith), tt)
+  result_lawful r (through p) given r_in (h, fits) = (lawful_load (cell r) (cell p) 1 (omega arith) r_in (use_within p h), tt)
 
   value_lawful : (r : Place) (v : Value) → FewIn v → Within es (cell r) → AllByRecursion (Fits es) (value_mentions v) → AllByRecursion (Lawful es) (value_words r v)
-  value_lawful r (address a) few r-in (h, fits) = (lawful_address (cell r) a r-in (ltb-true 0 (size_of es a.bytes) h), tt)
-  value_lawful r (copy q) few r-in (h, fits) = (lawful_copy (cell r) (cell q) r-in (use_within q h), tt)
-  value_lawful r (load q) few r-in (h, fits) = (lawful_load (cell r) (cell q) 0 (omega arith) r-in (use_within q h), tt)
-  value_lawful r (returned c) few r-in fits =
+  value_lawful r (address a) few r_in (h, fits) = (lawful_address (cell r) a r_in (ltb-true 0 (size_of es a.bytes) h), tt)
+  value_lawful r (copy q) few r_in (h, fits) = (lawful_copy (cell r) (cell q) r_in (use_within q h), tt)
+  value_lawful r (load q) few r_in (h, fits) = (lawful_load (cell r) (cell q) 0 (omega arith) r_in (use_within q h), tt)
+  value_lawful r (returned c) few r_in fits =
       All-append (Lawful es) (argument_words c.callee 2 c.arguments) _ (arguments_lawful c.callee c.arguments few fits)
-      (result_lawful r c.callee c.arguments r-in fits)
+      (result_lawful r c.callee c.arguments r_in fits)
 
   item_lawful : (i : Item) → Few i → AllByRecursion (Fits es) (mentions i) → AllByRecursion (Lawful es) (words_of i)
   item_lawful (variable e n) few fits = tt

@@ -70,9 +70,9 @@ clear_agrees texts new t none t_in = record { sizes = sizes; one_defines = one_d
         let (m, k, m_in, name) = defines_mention new n there in
         let apart : (declares_name t n && (not (eqb (size_of (declared_in t) n) (suc k)) || (true && defines t n))) ≡ false =
         rw name at (free (declares Defined m k) m_in) in
-        let (_, not-both) = no_clash_parts (declares_name t n) (eqb (size_of (declared_in t) n) (suc k)) (true && defines t n)
+        let (_, not_both) = no_clash_parts (declares_name t n) (eqb (size_of (declared_in t) n) (suc k)) (true && defines t n)
         (lt-ltb 0 (size_of (declared_in t) n) (defines_declares t n here)) apart in
-        true≢false (sym here ∙ not-both)
+        true≢false (sym here ∙ not_both)
 
 clash_parts : (a x y : Bool) → (a ≡ true → (x ≡ true) × (y ≡ false)) → (a && (not x || y)) ≡ false
 clash_parts true x y h = let (p, q) = h refl in rw (p, q) refl
@@ -184,7 +184,7 @@ load_agrees units u new agreed clear s t n s_in t_in some more =
     elim (stood units u new s s_in) [
       | inl is_new ↦
           elim (stood units u new t t_in) [
-            | inl is-too ↦ ap (λ x. size_of (declared_in x) n) (is_new ∙ sym is-too)
+            | inl is_too ↦ ap (λ x. size_of (declared_in x) n) (is_new ∙ sym is_too)
             | inr h ↦ rw is_new (sym ((clear_agrees (standing units) new t clear h).sizes n more (rw is_new at some)))
           ]
       | inr k ↦

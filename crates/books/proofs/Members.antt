@@ -55,7 +55,7 @@ all_in P x (y ∷ ys) (p, all) (inr h) = all_in P x ys all h
 pub in_map : {X Y : Type 0} (f : X → Y) (y : Y) (xs : List X) → y ∈ map f xs → (x : X) × (x ∈ xs) × (y ≡ f x)
 in_map f y [] h = absurd h
 in_map f y (x ∷ xs) (inl e) = (x, inl refl, e)
-in_map f y (x ∷ xs) (inr h) = let (z, z-in, e) = in_map f y xs h in (z, inr z-in, e)
+in_map f y (x ∷ xs) (inr h) = let (z, z_in, e) = in_map f y xs h in (z, inr z_in, e)
 
 pub nth_in : {X : Type 0} (xs : List X) (i : ℕ) (x : X) → slice_get xs i ≡ Some x → x ∈ xs
 nth_in [] i x e = absurd (none_some e)

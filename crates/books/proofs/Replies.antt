@@ -36,14 +36,14 @@ module _ (ts us : List (List ℕ)) (few : Book ts) (many : Book us) (sub : ts �
 
   -- two rows that share an object still share one
   more_shared : (c d : Cell) → Within (table ts) c → Within (table ts) d → T (shares ts c d) → T (shares us c d)
-  more_shared c d c_in d-in t =
+  more_shared c d c_in d_in t =
       let embedding = book_embeds ts us few many sub in
       let V = SameCell (table ts) (table us) in
       let (o, o_in, both) = any_elim 256 (Shared ts c d) t in
       let (v, x, at_v, at_x, left) = embeds_image V (list_of ts) (list_of us) embedding (number (table ts) c) o (and_left (row ts c o) (row ts d o) both) in
       let (w, y, at_w, at_y, right) = embeds_image V (list_of ts) (list_of us) embedding (number (table ts) d) o (and_right (row ts c o) (row ts d o) both) in
       let v_c : v ≡ number (table us) c = embedding.one (number (table ts) c) v (number (table us) c) at_v (same_cell c c_in) in
-      let w_d : w ≡ number (table us) d = embedding.one (number (table ts) d) w (number (table us) d) at_w (same_cell d d-in) in
+      let w_d : w ≡ number (table us) d = embedding.one (number (table ts) d) w (number (table us) d) at_w (same_cell d d_in) in
       let one : y ≡ x = embedding.one o y x at_y at_x in
       let l : T (row us c x) = rw v_c at left in
       let r : T (row us d x) = rw (w_d, one) at right in
@@ -104,9 +104,9 @@ module _ (ts us : List (List ℕ)) (one : Book ts) (other : Book us) (there : ts
       (more_pairs us ts other one back c n (there_within c c_in) (there_within (slot n 0) n_in))
 
   pub same_shares : (c d : Cell) → Within (table ts) c → Within (table ts) d → shares ts c d ≡ shares us c d
-  same_shares c d c_in d-in =
-      same_test (shares ts c d) (shares us c d) (more_shared ts us one other there c d c_in d-in)
-      (more_shared us ts other one back c d (there_within c c_in) (there_within d d-in))
+  same_shares c d c_in d_in =
+      same_test (shares ts c d) (shares us c d) (more_shared ts us one other there c d c_in d_in)
+      (more_shared us ts other one back c d (there_within c c_in) (there_within d d_in))
 
   -- the replies, whatever the refusals
   pub same_points : {F : Type 0} (a b : F) (p n : List ℕ) → points a b ts p n ≡ points a b us p n

@@ -23,7 +23,7 @@ true-T e = rw e tt
 
 module _ (es : List Entry) where
   same_cell : (c d : Cell) → Within es c → Within es d → number es c ≡ number es d → c ≡ d
-  same_cell c d c_in d-in e = let (n, s) = number_unique es c d c_in d-in e in λ i. record { name = n i; slot = s i }
+  same_cell c d c_in d_in e = let (n, s) = number_unique es c d c_in d_in e in λ i. record { name = n i; slot = s i }
 
   same_name : (m n : List ℕ) → Within es (slot m 0) → Within es (slot n 0) → number es (slot m 0) ≡ number es (slot n 0) → m ≡ n
   same_name m n m_in n_in e = ap (λ (x : Cell). x.name) (same_cell (slot m 0) (slot n 0) m_in n_in e)
@@ -43,19 +43,19 @@ module _ (es : List Entry) where
     by_name_closed : (kind : ℕ) (p : Cell) (k : ℕ) (q : Cell) → Within es p → Within es q → (kind ≡ 0 → q.slot ≡ 0)
         → Keeps (size_of es) kind p k q R → Meets (blocks es) (of_kind kind (number es p) k (number es q)) ByName
     by_name_closed zero p k q p_in q_in own keeps = (p, q.name, p_in, omega arith, refl, omega (arith, own refl), keeps)
-    by_name_closed (suc zero) p k q p_in q_in own keeps = λ o (d, m, d-in, m_in, q-d, o-m, t).
-        let same : d ≡ q = same_cell d q d-in q_in (sym q-d) in
-        (p, m, p_in, m_in, refl, o-m, keeps m (rw same at t))
-    by_name_closed (suc (suc zero)) p k q p_in q_in own keeps = λ o x (d, m, d-in, m_in, q-d, o-m, t) lt (e, l, e-in, l_in, at-e, x-l, g).
-        let same : d ≡ q = same_cell d q d-in q_in (sym q-d) in
-        let k_in : k < size_of es m = rw (o-m, own_length m m_in) at lt in
-        let there : e ≡ slot m k = same_cell e (slot m k) e-in k_in (omega arith) in
-        (p, l, p_in, l_in, refl, x-l, keeps m l (rw same at t) k_in (rw there at g))
-    by_name_closed (suc (suc (suc n))) p k q p_in q_in own keeps = λ o x (d, m, d-in, m_in, p-d, o-m, t) lt (e, l, e-in, l_in, at-e, x-l, g).
-        let same : d ≡ p = same_cell d p d-in p_in (sym p-d) in
-        let k_in : k < size_of es m = rw (o-m, own_length m m_in) at lt in
-        let there : e ≡ q = same_cell e q e-in q_in (sym at-e) in
-        (slot m k, l, k_in, l_in, omega arith, x-l, keeps m l (rw same at t) k_in (rw there at g))
+    by_name_closed (suc zero) p k q p_in q_in own keeps = λ o (d, m, d_in, m_in, q_d, o_m, t).
+        let same : d ≡ q = same_cell d q d_in q_in (sym q_d) in
+        (p, m, p_in, m_in, refl, o_m, keeps m (rw same at t))
+    by_name_closed (suc (suc zero)) p k q p_in q_in own keeps = λ o x (d, m, d_in, m_in, q_d, o_m, t) lt (e, l, e_in, l_in, at_e, x_l, g).
+        let same : d ≡ q = same_cell d q d_in q_in (sym q_d) in
+        let k_in : k < size_of es m = rw (o_m, own_length m m_in) at lt in
+        let there : e ≡ slot m k = same_cell e (slot m k) e_in k_in (omega arith) in
+        (p, l, p_in, l_in, refl, x_l, keeps m l (rw same at t) k_in (rw there at g))
+    by_name_closed (suc (suc (suc n))) p k q p_in q_in own keeps = λ o x (d, m, d_in, m_in, p_d, o_m, t) lt (e, l, e_in, l_in, at_e, x_l, g).
+        let same : d ≡ p = same_cell d p d_in p_in (sym p_d) in
+        let k_in : k < size_of es m = rw (o_m, own_length m m_in) at lt in
+        let there : e ≡ q = same_cell e q e_in q_in (sym at_e) in
+        (slot m k, l, k_in, l_in, omega arith, x_l, keeps m l (rw same at t) k_in (rw there at g))
 
   -- rows by number as rows by names
   abbrev by_names : (ℕ → ℕ → Bool) → NamedRows
@@ -106,9 +106,9 @@ module _ (texts : List (List ℕ)) (book : Book texts) where
       → (m : List ℕ) × (0 < size_of (table texts) m) × (o ≡ number (table texts) (slot m 0)) × T (R c m)
   each_has R solution c c_in o t =
       let es = table texts in
-      let (d, m, d-in, m_in, c-d, o-m, g) = least_within (list_of texts) (ByName es R) (in_each R solution) (number es c) o t in
-      let cell : d ≡ c = same_cell es d c d-in c_in (sym c-d) in
-      (m, m_in, o-m, rw cell at g)
+      let (d, m, d_in, m_in, c_d, o_m, g) = least_within (list_of texts) (ByName es R) (in_each R solution) (number es c) o t in
+      let cell : d ≡ c = same_cell es d c d_in c_in (sym c_d) in
+      (m, m_in, o_m, rw cell at g)
 
   abbrev smallest : NamedRows
   smallest = by_names (table texts) (least (list_of texts))
@@ -132,19 +132,19 @@ module _ (texts : List (List ℕ)) (book : Book texts) where
 pub points_in_every : PointsInEverySolution
 points_in_every texts book c n c_in n_in = (
   λ t R solution.
-      let (m, m_in, o-m, g) = each_has texts book R solution c c_in (number (table texts) (slot n 0)) t in
-      let name : m ≡ n = same_name (table texts) m n m_in n_in (sym o-m) in
+      let (m, m_in, o_m, g) = each_has texts book R solution c c_in (number (table texts) (slot n 0)) t in
+      let name : m ≡ n = same_name (table texts) m n m_in n_in (sym o_m) in
       rw name at g,
   λ all. smallest_has texts book c n (all (smallest texts book) (smallest_solves texts book)),
 )
 
 pub alias_in_every : AliasInEverySolution
-alias_in_every texts book c d c_in d-in = (
+alias_in_every texts book c d c_in d_in = (
   λ t R solution.
       let (o, _, both) = any_elim 256 (λ o. row texts c o && row texts d o) t in
-      let (m, m_in, o-m, g) = each_has texts book R solution c c_in o (and_left (row texts c o) (row texts d o) both) in
-      let (n, n_in, o-n, h) = each_has texts book R solution d d-in o (and_right (row texts c o) (row texts d o) both) in
-      let name : n ≡ m = same_name (table texts) n m n_in m_in (sym o-n ∙ o-m) in
+      let (m, m_in, o_m, g) = each_has texts book R solution c c_in o (and_left (row texts c o) (row texts d o) both) in
+      let (n, n_in, o_n, h) = each_has texts book R solution d d_in o (and_right (row texts c o) (row texts d o) both) in
+      let name : n ≡ m = same_name (table texts) n m n_in m_in (sym o_n ∙ o_m) in
       (m, g, rw name at h),
   λ all.
       let (n, left, right) = all (smallest texts book) (smallest_solves texts book) in

@@ -51,11 +51,11 @@ unique_step P false false s f x g y k l both ih k_in l_in e = ih k_in l_in (omeg
 
 -- cells with one number are one cell
 pub number_unique : (es : List Entry) (c d : Cell) → Within es c → Within es d → number es c ≡ number es d → (c.name ≡ d.name) × (c.slot ≡ d.slot)
-number_unique [] c d c_in d-in e = absurd (not-suc-le-zero c_in)
-number_unique (h ∷ es) c d c_in d-in e =
+number_unique [] c d c_in d_in e = absurd (not-suc-le-zero c_in)
+number_unique (h ∷ es) c d c_in d_in e =
     unique_step (c.name ≡ d.name) (bytes_eq h.name c.name) (bytes_eq h.name d.name) h.slots (first_of es c.name) (size_of es c.name)
     (first_of es d.name) (size_of es d.name) c.slot d.slot
-    (λ p q. sym (same_bytes h.name c.name p) ∙ same_bytes h.name d.name q) (number_unique es c d) c_in d-in e
+    (λ p q. sym (same_bytes h.name c.name p) ∙ same_bytes h.name d.name q) (number_unique es c d) c_in d_in e
 
 -- no block starts below the first one
 none_before : (s o : ℕ) (bs : List ℕ) → o < s → length_from s bs o ≡ 0

@@ -84,7 +84,7 @@ pub record Book (texts : List (List ℕ)) : Type 0 where
   pub few : variables (blocks (table texts)) ≤ 256
   pub few_words : length (words texts) ≤ 512
   pub few_calls : length (indirect_calls texts) ≤ 64
-  deriving IsProp as book-prop
+  deriving IsProp as Book-prop
 
 abbrev pub row : List (List ℕ) → Cell → ℕ → Bool
 row texts c = least (list_of texts) (number (table texts) c)

@@ -51,7 +51,7 @@ module _ (cs : List Cell) (hs : List ℕ) (used v o before after : ℕ)
   first_rest = drop-set-lt (chain_room cs) cs used (record { object = o; link = after }) few
 
   pub added_first : before ≡ end → Added (put_first cs after used o) (set hs v used)
-  added_first is-end = added (put_first cs after used o) (set hs v used)
+  added_first is_end = added (put_first cs after used o) (set hs v used)
       (record {
         object = object_cell (put_first cs after used o) used not_end ∙ ap (λ x. x.object) fresh_at;
         link = ap (λ x. x.link) fresh_at;
@@ -59,7 +59,7 @@ module _ (cs : List Cell) (hs : List ℕ) (used v o before after : ℕ)
         links = λ i ne nb. ap (λ x. x.link) (others_at i ne);
         heads = λ w ne. get_or-set_other hs v w used 0 ne;
         first = λ _. get_or-set_same hs v used 0 (omega (arith, sound.rows));
-        later = λ ne. absurd (ne is-end);
+        later = λ ne. absurd (ne is_end);
       })
       (length-set cs used (record { object = o; link = after }))
       (length-set hs v used ∙ sound.rows)

@@ -64,7 +64,7 @@ assembled : (w a b c n k p q : ℕ) → w ≡ 4096 * a + q → a ≡ 4096 * b + 
 assembled w a b c n k p q e f g h = omega arith
 
 offset_from : (w n k : ℕ) → w < 2 ^ 32 → kind w ≡ n → offset w ≡ k → w / 0x0800_0000 ≡ 8 * n + k
-offset_from w n k bits kind-is offset-is = omega arith
+offset_from w n k bits kind_is offset_is = omega arith
 
 quarters : (w : ℕ) → w / 0x0100_0000 % 8 ≡ 0 → w / 0x0100_0000 ≡ 8 * (w / 0x0800_0000)
 quarters w zeros = omega arith
@@ -74,10 +74,10 @@ lowers w = omega arith
 
 -- the word is the one that its fields give
 pub rebuilt : (w n k : ℕ) → PlainWord w → kind w ≡ n → offset w ≡ k → written n (left w) k (right w) ≡ Some w
-rebuilt w n k plain kind-is offset-is =
+rebuilt w n k plain kind_is offset_is =
     let same : word_of n (left w) k (right w) ≡ w =
     assembled w (w / 4096) (w / 0x0100_0000) (w / 0x0800_0000) n k (left w) (right w) (omega arith) (lowers w)
-    (quarters w plain.zero_bits) (offset_from w n k plain.word_bits kind-is offset-is) in
+    (quarters w plain.zero_bits) (offset_from w n k plain.word_bits kind_is offset_is) in
     sym (written_some n (left w) k (right w) (omega arith) (omega arith) (omega arith)) ∙ ap Some same
 
 pub decode_kind : (w n : ℕ) → kind w ≡ n → of_kind n (left w) (offset w) (right w) ≡ decode w

@@ -129,7 +129,7 @@ bool_false false h = refl
 
 -- what one part refuses
 pub not_word : (bs : List ℕ) (w : ℕ) → (Parts bs w → ⊥) → false ≡ is_word bs w
-not_word bs w no-parts = sym (bool_false (is_word bs w) (λ e. no-parts (parts_of bs w e)))
+not_word bs w no_parts = sym (bool_false (is_word bs w) (λ e. no_parts (parts_of bs w e)))
 
 zeros : (n o z : ℕ) → get_or (replicate n z) o z ≡ z
 zeros zero o z = refl

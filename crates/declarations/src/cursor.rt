@@ -2,7 +2,7 @@
 ghost use Rattle.std.specs.Prelude.{◌≡◌, ℕ, List, IfSome};
 ghost use Rattle.std.specs.List.{flat_map};
 ghost use Rattle.grammar.specs.Meanings.{item_in};
-ghost use Rattle.declarations.specs.Declarations.{kept, mentions as mentionsOf};
+ghost use Rattle.declarations.specs.Declarations.{kept, mentions as mentions_of};
 ghost use Rattle.declarations.specs.Meanings.{declaration_or, ItemAt, NextDeclaration, Onward, AllDeclarations};
 
 use grammar::item::{Item, Linkage};
@@ -21,7 +21,7 @@ pub struct Declaration {
 }
 
 fn declared(found: Found) -> Option<Declaration>
-    ensures is { (text : List ℕ) → declaration_or text result ≡ flat_map kept (mentionsOf (item_in text found.item)) }
+    ensures is { (text : List ℕ) → declaration_or text result ≡ flat_map kept (mentions_of (item_in text found.item)) }
     ensures ends { IfSome result (λ d. d.end ≡ found.end) }
 {
     let end = found.end;

@@ -2,7 +2,7 @@
 ghost use Rattle.std.specs.Prelude.{◌≡◌, ℕ, ◌+◌, ◌<◌, ◌≤◌, true, List, [], ◌∷◌, ◌++◌, map, length};
 ghost use Rattle.lexemes.specs.Texts.{name_in_text};
 ghost use Rattle.grammar.specs.Meanings.{callee_in, arguments_in, call_in, value_in, item_in};
-ghost use Rattle.declarations.specs.Declarations.{Entry, size_of, name_in, offset_of, has_slot, right, entry, callee_mention, call_mentions, value_mentions, mentions as mentionsOf, uses as usesOf};
+ghost use Rattle.declarations.specs.Declarations.{Entry, size_of, name_in, offset_of, has_slot, right, entry, callee_mention, call_mentions, value_mentions, mentions as mentions_of, uses as uses_of};
 ghost use Rattle.declarations.specs.Meanings.{mention_in, noted};
 
 use grammar::item::{Arguments, Call, Callee, Item, Linkage, Place, Slot, Value};
@@ -88,7 +88,7 @@ fn argument_count(arguments: Arguments) -> usize
 fn note_arguments(mentions: &mut [Mention], from: usize, arguments: Arguments) -> usize
     requires { from + 6 ≤ length mentions.old }
     ensures few { result ≤ from + 6 }
-    ensures all { (text : List ℕ) → noted text result mentions.new ≡ noted text from mentions.old ++ map usesOf (arguments_in text arguments) }
+    ensures all { (text : List ℕ) → noted text result mentions.new ≡ noted text from mentions.old ++ map uses_of (arguments_in text arguments) }
 {
     let count = argument_count(arguments);
     for i in 0..count {
@@ -135,7 +135,7 @@ fn note_value(mentions: &mut [Mention], from: usize, value: Value) -> usize
 pub(crate) fn note_item(mentions: &mut [Mention], from: usize, item: Item) -> usize
     requires { from + 8 ≤ length mentions.old }
     ensures few { result ≤ from + 8 }
-    ensures all { (text : List ℕ) → noted text result mentions.new ≡ noted text from mentions.old ++ mentionsOf (item_in text item) }
+    ensures all { (text : List ℕ) → noted text result mentions.new ≡ noted text from mentions.old ++ mentions_of (item_in text item) }
 {
     match item {
         Item::Variable(linkage, name) => note(mentions, from, Mention::Declares(linkage, name, 0)),

@@ -27,7 +27,7 @@ pub record Advanced (q q₁ : Pending) : Type 0 where
 
 -- a pair that is not pending any more is held already
 pub done_before : (n m : ℕ) (P P' : Rows) (q q' : Pending) → Noted n m P P' q q' → (x y : ℕ) → Done P' q' x y → T (P x y)
-done_before n m P P' q q' a x y (t, not-pending) = ⊎_elim (λ old. old) (λ p. absurd (not-pending p)) (a.new x y t)
+done_before n m P P' q q' a x y (t, not_pending) = ⊎_elim (λ old. old) (λ p. absurd (not_pending p)) (a.new x y t)
 
 module _ (sys : System) (n m v o : ℕ) (P P' : Rows) (q q₁ q' : Pending) (heads : Heads q v o) (adv : Advanced q q₁) (a : Noted n m P P' q₁ q') where
   pub effort_falls : effort P' q' < effort P q

@@ -13,15 +13,15 @@ begins_less : (ls ms : List Terminal) → Begins (ls ++ ms) → Begins ls
 begins_less ls ms b = (ms ++ b.0, subst Admitted (append_assoc ls ms b.0) b.1)
 
 fault_begins : (size : ℕ) {ls : List Terminal} {ps : List Piece} {off : ℕ} → Fault size ls ps off → Begins ls
-fault_begins size (missing b no-unit) = b
+fault_begins size (missing b no_unit) = b
 fault_begins size (strange b) = b
 fault_begins size (wrong b no_more) = b
 fault_begins size (later {ls = ls} {l = l} f) = begins_less ls (l ∷ []) (fault_begins size f)
 
 fault_one : (size : ℕ) {ls : List Terminal} {ps : List Piece} {a b : ℕ} → Fault size ls ps a → Fault size ls ps b → a ≡ b
-fault_one size (missing x no-unit) (missing y no-unit') = refl
+fault_one size (missing x no_unit) (missing y no_unit') = refl
 fault_one size (strange x) (strange y) = refl
-fault_one size (wrong x no_more) (wrong y no-more') = refl
+fault_one size (wrong x no_more) (wrong y no_more') = refl
 fault_one size (wrong x no_more) (later g) = absurd (no_more (fault_begins size g))
 fault_one size (later f) (wrong y no_more) = absurd (no_more (fault_begins size f))
 fault_one size (later f) (later g) = fault_one size f g

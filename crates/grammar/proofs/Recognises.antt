@@ -229,7 +229,7 @@ whole size begin s (lexeme at l ∷ ps) h = whole_step size begin s at l ps (ste
 
 -- a text with a fault is no unit's
 refused : (size : ℕ) {ls : Terminals} {ps : List Piece} {off : ℕ} {rest : Terminals} → Fault size ls ps off → Spells ps rest → Admitted (ls ++ rest) → ⊥
-refused size (missing begun no-unit) none adm = no-unit (subst Admitted (append-nil _) adm)
+refused size (missing begun no_unit) none adm = no_unit (subst Admitted (append-nil _) adm)
 refused size (strange begun) w adm = elim w [ ]
 refused size (wrong {ls = ls} {l = l} begun no_more) (one {ls = rest} w) adm = no_more (rest, subst Admitted (sym (append_assoc ls (l ∷ []) rest)) adm)
 refused size (later {ls = ls} {l = l} f) (one {ls = rest} w) adm = refused size f w (subst Admitted (sym (append_assoc ls (l ∷ []) rest)) adm)

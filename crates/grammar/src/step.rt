@@ -2,7 +2,7 @@
 ghost use Rattle.std.specs.Prelude.{◌≡◌, ℕ, List, [], length, nat_lt};
 ghost use Rattle.lexemes.specs.Texts.{terminal, name_in_text};
 ghost use Rattle.grammar.specs.Meanings.{role_in, place_in, step_in, state_in, target_in, callee_in, item_in, arguments_in, arguments_or};
-ghost use Rattle.grammar.specs.Automaton.{is_sign, is_that_word, variable_of as VariableBegun, function_of as FunctionBegun, counted as CountedOf, placed as PlacedOf, addressed as AddressedOf, start as Started, external as Externed, named as NamedOf, dotted as DottedOf, valued as ValuedOf, called as CalledOf, on_sign, fault as Faulted, call_item, opening as openingOf, pushed as pushedTo, follow_arguments, follow as followOf, step as step_of};
+ghost use Rattle.grammar.specs.Automaton.{is_sign, is_that_word, variable_of as VariableBegun, function_of as FunctionBegun, counted as CountedOf, placed as PlacedOf, addressed as AddressedOf, start as Started, external as Externed, named as NamedOf, dotted as DottedOf, valued as ValuedOf, called as CalledOf, on_sign, fault as Faulted, call_item, opening as opening_of, pushed as pushed_to, follow_arguments, follow as follow_of, step as step_of};
 
 use crate::item::{Arguments, Call, Callee, Item, Linkage, Place, Slot, Value};
 use crate::state::{Role, State, Step};
@@ -28,7 +28,7 @@ fn is_word(lexeme: Lexeme, word: Word) -> bool
 
 // After a name and "(".
 fn opening(role: Role, name: Span) -> Step
-    ensures { (text : List ℕ) → step_in text result ≡ openingOf (role_in text role) (name_in_text text name) }
+    ensures { (text : List ℕ) → step_in text result ≡ opening_of (role_in text role) (name_in_text text name) }
 {
     match role {
         Role::Target => Step::More(State::Called(None, Callee::Direct(name))),
@@ -40,7 +40,7 @@ fn opening(role: Role, name: Span) -> Step
 
 // One argument more, up to six.
 fn pushed(arguments: Arguments, place: Place) -> Option<Arguments>
-    ensures { (text : List ℕ) → arguments_or text result ≡ pushedTo (arguments_in text arguments) (place_in text place) }
+    ensures { (text : List ℕ) → arguments_or text result ≡ pushed_to (arguments_in text arguments) (place_in text place) }
 {
     if arguments.count < 6 {
         let mut places = arguments.places;
@@ -94,7 +94,7 @@ fn follow_arguments(
 
 // After a whole place.
 fn follow(role: Role, place: Place, lexeme: Lexeme) -> Step
-    ensures { (text : List ℕ) → step_in text result ≡ followOf (role_in text role) (place_in text place) (terminal text lexeme) }
+    ensures { (text : List ℕ) → step_in text result ≡ follow_of (role_in text role) (place_in text place) (terminal text lexeme) }
 {
     match role {
         Role::Target => on_sign(lexeme, Sign::Equals, Step::More(State::Valued(place))),

@@ -57,12 +57,12 @@ not_clashing text (Some at) e = none_some e
 pub admitted : (units : Units) (u : ℕ) (text : List ℕ) → length units ≡ 8 → load_refusal units u text ≡ None → Admitted units u text
 unfolding load_refusal
 admitted units u text eight e =
-    let (number, past-number) = all_none _ _ e in
-    let (free, past-free) = all_none _ _ past-number in
-    let (lone, past-lone) = all_none _ _ past-free in
-    let (clear, past-clash) = all_none _ _ past-lone in
-    let (variables_in, past-variables) = all_none _ _ past-clash in
-    let (words_in, past_words) = all_none _ _ past-variables in
+    let (number, past_number) = all_none _ _ e in
+    let (free, past_free) = all_none _ _ past_number in
+    let (lone, past_lone) = all_none _ _ past_free in
+    let (clear, past_clash) = all_none _ _ past_lone in
+    let (variables_in, past_variables) = all_none _ _ past_clash in
+    let (words_in, past_words) = all_none _ _ past_variables in
     let (calls_in, _) = all_none _ _ past_words in
     let few = ltb-false 7 u (not_if (ltb 7 u) NoSuchUnit number) in
     record {

@@ -13,7 +13,7 @@ use Rattle.standing.specs.declared.refusal.UnitRefusal.{UnitRefusal}
 use Rattle.standing.specs.Loads.{load_refusal, unload_refusal}
 use Rattle.standing.specs.Calls.{call_refusal, call_pointer}
 use Rattle.host_analyser.specs.declared.refusal.Refusal.{Refusal}
-use Rattle.host_analyser.specs.declared.refusal.Refusal.TheVariants.{Unit as Of-unit, NotSettled, NoPlace, Unknown, BufferTooShort}
+use Rattle.host_analyser.specs.declared.refusal.Refusal.TheVariants.{Unit as OfUnit, NotSettled, NoPlace, Unknown, BufferTooShort}
 use Rattle.host_analyser.specs.Books.{Book, texts_of}
 use Rattle.host_analyser.specs.Replies.{SettleSays}
 use Rattle.histories.specs.declared.call.Question.{Question}
@@ -26,7 +26,7 @@ use Rattle.histories.specs.declared.call.Reply.TheVariants.{Settled, Loaded, Unl
 -- refused for the reason that applies, or else answered
 abbrev pub refused_or : Option UnitRefusal → Reply → Reply
 refused_or None r = r
-refused_or (Some f) r = Refused (Of-unit f)
+refused_or (Some f) r = Refused (OfUnit f)
 
 -- a question's result as a reply
 abbrev pub answer_of : Result Bool Refusal → Reply
@@ -81,7 +81,7 @@ pub record ListsTargets (texts : List (List ℕ)) (pointer : Cell) (buffer : Lis
       (RepliesWith r (Ok (length bytes)) (bytes ++ drop (length bytes) buffer))
 
 abbrev pub PointerSays : Book → Option UnitRefusal → Option Cell → List ℕ → Reply → Type 0
-PointerSays b (Some f) c buffer r = RepliesWith r (Err (Of-unit f)) buffer
+PointerSays b (Some f) c buffer r = RepliesWith r (Err (OfUnit f)) buffer
 PointerSays b None None buffer r = ⊥
 PointerSays b None (Some c) buffer r = ListsTargets (texts_of b) c buffer r
 

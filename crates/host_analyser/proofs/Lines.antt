@@ -147,7 +147,7 @@ module _ (m : Meaning) (S : Type 0) (v : ℕ) (units : Units) (list : System) (o
       → (BlockAnswers k R v first name → n' ≡ n + length (target_line (least k.system v) size first name))
       → (first + size ≤ 256 → first' ≡ first + size)
       → (first' ≡ start (blocks es) (i + 1)) × (overlaid out' n' (left_lines row first' (drop (i + 1) es)) ≡ overlaid before 0 (targets es row)) × (n' + length (left_lines row first' (drop (i + 1) es)) ≡ length (targets es row))
-  turn_lines k R same safe out before name n first size size_is name-is (at_first, written, counted) out' n' first' put count add =
+  turn_lines k R same safe out before name n first size size_is name_is (at_first, written, counted) out' n' first' put count add =
       let row = least m.system v in
       let long = blocks_length es in
       let size_here' : size ≡ suc entry_here.slots = size_is ∙ size_here in
@@ -155,7 +155,7 @@ module _ (m : Meaning) (S : Type 0) (v : ℕ) (units : Units) (list : System) (o
       let at_block = blocks_at es i no_entry here in
       let few : first + size ≤ 256 = omega (arith, at_first, size_here', within, at_block, tabled.few) in
       let first_is : first' ≡ first + size = add few in
-      let named : name ≡ entry_here.name = name-is ∙ name_here in
+      let named : name ≡ entry_here.name = name_is ∙ name_here in
       let answers : BlockAnswers k R v first name =
       record {
         ready = record { safe = safe ready.safe; settled = ap (λ x. x.settled) same ∙ ready.settled; row = subst (λ x. v < var_count x.system) (sym same) ready.row };

@@ -34,32 +34,32 @@ module _ (row : ℕ → Bool) (from : ℕ) where
 module _ (r q : ℕ → Bool) where
   -- between two objects that follow each other in one row, the rows share nothing
   pub unshared_on : (from o p : ℕ) → Unshared r q from → NextObject r from (Some o) → NextObject q o (Some p) → Unshared r q p
-  unshared_on from o p so_far next-r next-q k below in_r in_q =
+  unshared_on from o p so_far next_r next_q k below in_r in_q =
       ⊎_elim (λ lt. so_far k lt in_r in_q)
-      (λ le. ⊎_elim (λ lt. next-r.3 k le lt in_r) (λ up. next-q.3 k up below in_q) (cases_lt k o))
+      (λ le. ⊎_elim (λ lt. next_r.3 k le lt in_r) (λ up. next_q.3 k up below in_q) (cases_lt k o))
       (cases_lt k from)
 
   pub share_none_second : (from o : ℕ) → Unshared r q from → NextObject r from (Some o) → NextObject q o None → false ≡ any 256 (λ k. r k && q k)
-  share_none_second from o so_far next-r next-q =
+  share_none_second from o so_far next_r next_q =
       same_test false (any 256 (λ k. r k && q k)) (λ t. absurd t)
       (λ t. let (k, lt, both) = any_elim 256 (λ j. r j && q j) t in
       let in_r = and_left (r k) (q k) both in
       let in_q = and_right (r k) (q k) both in
       ⊎_elim (λ before. so_far k before in_r in_q)
-      (λ le. ⊎_elim (λ early. next-r.3 k le early in_r) (λ up. next-q k lt up in_q) (cases_lt k o))
+      (λ le. ⊎_elim (λ early. next_r.3 k le early in_r) (λ up. next_q k lt up in_q) (cases_lt k o))
       (cases_lt k from))
 
   pub share_none_first : (from : ℕ) → Unshared r q from → NextObject r from None → false ≡ any 256 (λ k. r k && q k)
-  share_none_first from so_far next-r =
+  share_none_first from so_far next_r =
       same_test false (any 256 (λ k. r k && q k)) (λ t. absurd t)
       (λ t. let (k, lt, both) = any_elim 256 (λ j. r j && q j) t in
       let in_r = and_left (r k) (q k) both in
-      ⊎_elim (λ before. so_far k before in_r (and_right (r k) (q k) both)) (λ le. next-r k lt le in_r) (cases_lt k from))
+      ⊎_elim (λ before. so_far k before in_r (and_right (r k) (q k) both)) (λ le. next_r k lt le in_r) (cases_lt k from))
 
   pub share_some : (from o p : ℕ) → o ≡ p → NextObject r from (Some o) → NextObject q o (Some p) → true ≡ any 256 (λ k. r k && q k)
-  share_some from o p same next-r next-q =
+  share_some from o p same next_r next_q =
       same_test true (any 256 (λ k. r k && q k))
-      (λ _. any_intro 256 (λ k. r k && q k) o next-r.0 (and_intro (r o) (q o) next-r.2 (subst (λ x. T (q x)) (sym same) next-q.2)))
+      (λ _. any_intro 256 (λ k. r k && q k) o next_r.0 (and_intro (r o) (q o) next_r.2 (subst (λ x. T (q x)) (sym same) next_q.2)))
       (λ _. tt)
 
 -- what a settled engine answers, and where its meaning stays

@@ -6,7 +6,7 @@ use Rattle.constraints.specs.Rows.{total}
 use Rattle.constraints.specs.Least.{least}
 use Rattle.units.specs.declared.listing.ListedWord.{ListedWord}
 use Rattle.engine.specs.Meanings.{Rule, Roomy, Overflows}
-use Rattle.engine.specs.declared.fault.EngineFault.TheVariants.{NoRoom as No-room-below}
+use Rattle.engine.specs.declared.fault.EngineFault.TheVariants.{NoRoom as NoRoomBelow}
 use Rattle.engine.specs.declared.fault.Overflow.{Overflow}
 use Rattle.books.specs.Books.{Units, Book as Lawful}
 use Rattle.books.specs.Listing.{listed_words}
@@ -28,7 +28,7 @@ module _ (rule : Rule) (b : Book) (lawful : Lawful (texts_of b)) where
       (cases_lt rule.room (total (least (book_list b))))
 
   pub out_of_room : Roomy rule → rule.fits (book_list b) ≡ false → (o : Overflow) → Overflows rule (book_list b) o → (f : RoomFault)
-      → Locates b.units (listed_words b.units) (No-room-below o) f → OutOfRoom rule b f
+      → Locates b.units (listed_words b.units) (NoRoomBelow o) f → OutOfRoom rule b f
   out_of_room roomy unfit o overflows f locates =
       let from = words_have_origins b.units o.position overflows.within in
       record {
@@ -45,12 +45,12 @@ module _ (rule : Rule) (b : Book) (lawful : Lawful (texts_of b)) where
 -- over what the code has: a list and units that are equal to the book's
 pub no_room : (rule : Rule) (b : Book) → Lawful (texts_of b) → Roomy rule → (sys : System) → sys ≡ book_list b → (units : Units) → units ≡ b.units
     → (listed : List ListedWord) → listed ≡ listed_words b.units → rule.fits sys ≡ false → (o : Overflow) → Overflows rule sys o → (f : RoomFault)
-    → Locates units listed (No-room-below o) f → (rule.fits (book_list b) ≡ false) × OutOfRoom rule b f
-no_room rule b lawful roomy sys sys-is units units-are listed listed-are unfit o overflows f locates =
-    let unfit' = ap rule.fits (sym sys-is) ∙ unfit in (
+    → Locates units listed (NoRoomBelow o) f → (rule.fits (book_list b) ≡ false) × OutOfRoom rule b f
+no_room rule b lawful roomy sys sys_is units units_are listed listed_are unfit o overflows f locates =
+    let unfit' = ap rule.fits (sym sys_is) ∙ unfit in (
       unfit',
-      out_of_room rule b lawful roomy unfit' o (subst (λ s. Overflows rule s o) sys-is overflows) f
-          (subst₂ (λ us ws. Locates us ws (No-room-below o) f) units-are listed-are locates),
+      out_of_room rule b lawful roomy unfit' o (subst (λ s. Overflows rule s o) sys_is overflows) f
+          (subst₂ (λ us ws. Locates us ws (NoRoomBelow o) f) units_are listed_are locates),
     )
 
 pub says_no_room : (rule : Rule) (b : Book) (f : RoomFault) → b.settled ≡ false → rule.fits (book_list b) ≡ false → OutOfRoom rule b f → SettleResult rule b (Err (NoRoom f))

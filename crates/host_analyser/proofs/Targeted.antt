@@ -24,7 +24,7 @@ use Rattle.standing.specs.Loads.{stands}
 use Rattle.standing.specs.Refusals.{refused_if, earliest}
 use Rattle.standing.specs.States.{cell_number, pointer_or, pointer_reply, owned_name, name_in_entry}
 use Rattle.host_analyser.specs.declared.refusal.Refusal.{Refusal}
-use Rattle.host_analyser.specs.declared.refusal.Refusal.TheVariants.{Unit as Of-unit, NotSettled, BufferTooShort}
+use Rattle.host_analyser.specs.declared.refusal.Refusal.TheVariants.{Unit as OfUnit, NotSettled, BufferTooShort}
 use Rattle.host_analyser.specs.Books.{Book, texts_of, book_list}
 use Rattle.host_analyser.specs.Listing.{Short, Tabled}
 use Rattle.host_analyser.specs.Objects.{AnswersFor}
@@ -114,7 +114,7 @@ pub overlaid_front : (bytes buffer : List ℕ) → length bytes ≤ length buffe
 overlaid_front bytes buffer fits = front [] buffer bytes fits
 
 module _ (b : Book) (open_book : b.settled ≡ true) (u i : ℕ) (buffer : List ℕ) where
-  pub refused_targets : (f : UnitRefusal) → call_refusal b.units u i ≡ Some f → targets_reply b u i buffer ≡ Err (Of-unit f)
+  pub refused_targets : (f : UnitRefusal) → call_refusal b.units u i ≡ Some f → targets_reply b u i buffer ≡ Err (OfUnit f)
   refused_targets f e =
       let Y : Result ℕ Refusal = cond (ltb (length buffer) (length (target_bytes b u i))) (Err BufferTooShort) (Ok (length (target_bytes b u i))) in
       ap (λ s. cond s (pointer_or_refused (call_refusal b.units u i) Y) (Err NotSettled)) open_book ∙ ap (λ o. pointer_or_refused o Y) e
@@ -187,11 +187,11 @@ pub write_targets : {E : Type 0} (meaning : E → Meaning) (sound : E → Type 0
     → (Tabled (table (texts_of (book_of a))) (meaning e).system (book_of a).units (list_in a.list) (owners_in a.list) → AnswersFor (meaning e) (sound e) v
     → out ≡ overlaid buffer 0 (targets (table (texts_of (book_of a))) (least (meaning e).system v)))
     → Written (book_of a) u i buffer n out
-write_targets meaning sound a e right later-right open_book lawful u i v found buffer length_first counts short n out count writes =
+write_targets meaning sound a e right later_right open_book lawful u i v found buffer length_first counts short n out count writes =
     let b = book_of a in
     let es = table (texts_of b) in
     let ready = pointer_ready meaning sound a right lawful u i v found in
-    let later = pointer_ready meaning sound (record { units = a.units; list = a.list; engine = e; settled = a.settled }) later-right lawful u i v found in
+    let later = pointer_ready meaning sound (record { units = a.units; list = a.list; engine = e; settled = a.settled }) later_right lawful u i v found in
     let same : ready.cell ≡ later.cell = some_same (sym ready.is ∙ later.is) in
     let counted = counts ready.listed ready.answers ∙ ap (λ r. length (targets es r)) ready.row_is ∙ ap (λ x. length (targets es (row (texts_of b) x))) same in
     let fits : length (targets es (row (texts_of b) later.cell)) ≤ length buffer = omega (arith, counted, short) in (

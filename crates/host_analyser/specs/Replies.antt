@@ -6,7 +6,7 @@ use Rattle.units.specs.declared.listing.ListedWord.{ListedWord}
 use Rattle.constraints.specs.Rows.{total}
 use Rattle.constraints.specs.Least.{least}
 use Rattle.engine.specs.Meanings.{Rule, Overflows}
-use Rattle.engine.specs.declared.fault.EngineFault.TheVariants.{NoRoom as No-room-below}
+use Rattle.engine.specs.declared.fault.EngineFault.TheVariants.{NoRoom as NoRoomBelow}
 use Rattle.engine.specs.declared.fault.Overflow.{Overflow}
 use Rattle.books.specs.Books.{table, row}
 use Rattle.books.specs.Listing.{origin}
@@ -15,14 +15,14 @@ use Rattle.books.specs.Targets.{targets}
 use Rattle.standing.specs.declared.refusal.UnitRefusal.{UnitRefusal}
 use Rattle.standing.specs.Calls.{call_refusal, call_pointer}
 use Rattle.host_analyser.specs.declared.refusal.Refusal.{Refusal}
-use Rattle.host_analyser.specs.declared.refusal.Refusal.TheVariants.{Unit as Of-unit, SettledAlready, NoRoom, NotSettled, NoPlace, Unknown, BufferTooShort}
+use Rattle.host_analyser.specs.declared.refusal.Refusal.TheVariants.{Unit as OfUnit, SettledAlready, NoRoom, NotSettled, NoPlace, Unknown, BufferTooShort}
 use Rattle.host_analyser.specs.declared.refusal.RoomFault.{RoomFault}
 use Rattle.host_analyser.specs.Books.{Book, texts_of, book_list}
 
 -- refused for the reason that applies, or else done
 abbrev pub result_of : Option UnitRefusal → Result (Unit {0}) Refusal
 result_of None = Ok tt
-result_of (Some f) = Err (Of-unit f)
+result_of (Some f) = Err (OfUnit f)
 
 -- what the smallest solution answers
 abbrev pub points_reply : Book → List ℕ → List ℕ → Result Bool Refusal
@@ -41,7 +41,7 @@ target_bytes b u i = listing_of b (call_pointer b.units u i)
 
 abbrev pub pointer_or_refused : Option UnitRefusal → Result ℕ Refusal → Result ℕ Refusal
 pointer_or_refused None r = r
-pointer_or_refused (Some f) r = Err (Of-unit f)
+pointer_or_refused (Some f) r = Err (OfUnit f)
 
 abbrev pub targets_reply : Book → ℕ → ℕ → List ℕ → Result ℕ Refusal
 targets_reply b u i buffer =
@@ -68,7 +68,7 @@ pub record OutOfRoom (rule : Rule) (b : Book) (f : RoomFault) : Type 0 where
   pub crowded : rule.room < total (least (book_list b))
   pub named : origin b.units overflow.position ≡ Some word
   pub stands : slice_index_or b.units word.unit None ≡ Some text
-  pub carried : f ≡ record { unit = word.unit; line = line_of text word.at; fault = No-room-below overflow }
+  pub carried : f ≡ record { unit = word.unit; line = line_of text word.at; fault = NoRoomBelow overflow }
 
 -- Settle fails for room exactly when the list of the standing units does not fit the engine. `done` is the reply to a
 -- settle that is accepted, `refused` that to one that is not.

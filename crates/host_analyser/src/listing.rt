@@ -3,7 +3,7 @@ ghost use Rattle.std.specs.Prelude.{◌≡◌, ◌+◌, ◌<◌, ◌≤◌, List
 ghost use Rattle.constraints.specs.Least.{least};
 ghost use Rattle.units.specs.Listing.{overlaid};
 ghost use Rattle.declarations.specs.Declarations.{Entry};
-ghost use Rattle.books.specs.Targets.{line as nameLine, targets as listingOf};
+ghost use Rattle.books.specs.Targets.{line as name_line, targets as listing_of};
 ghost use Rattle.standing.specs.States.{units_of};
 ghost use Rattle.standing.specs.Lists.{list_in, owners_in};
 ghost use Rattle.host_analyser.specs.Objects.{AnswersFor};
@@ -28,8 +28,8 @@ fn put(out: &mut [u8], at: usize, byte: u8)
 // Writes a name and a line feed from position n on, as far as there are places; the position after it.
 fn put_line(out: &mut [u8], n: usize, name: &[u8]) -> usize
     requires { n ≤ 6400 }
-    ensures written { length name.now ≤ 24 → out.new ≡ overlaid out.old n (nameLine name.now) }
-    ensures count { length name.now ≤ 24 → result ≡ n + length (nameLine name.now) }
+    ensures written { length name.now ≤ 24 → out.new ≡ overlaid out.old n (name_line name.now) }
+    ensures count { length name.now ≤ 24 → result ≡ n + length (name_line name.now) }
     ensures bound { result ≤ n + 25 }
 {
     let len = name.len().min(LONGEST_NAME);
@@ -78,8 +78,8 @@ pub(crate) fn list_targets<E: Engine>(
     v: u8,
     out: &mut [u8],
 ) -> usize
-    ensures written { (es : List Entry) → Tabled es (E.meaning engine.old).system (units_of units.now) (list_in list.now) (owners_in list.now) → AnswersFor (E.meaning engine.old) (E.sound engine.old) v → out.new ≡ overlaid out.old 0 (listingOf es (least (E.meaning engine.old).system v)) }
-    ensures count { (es : List Entry) → Tabled es (E.meaning engine.old).system (units_of units.now) (list_in list.now) (owners_in list.now) → AnswersFor (E.meaning engine.old) (E.sound engine.old) v → result ≡ length (listingOf es (least (E.meaning engine.old).system v)) }
+    ensures written { (es : List Entry) → Tabled es (E.meaning engine.old).system (units_of units.now) (list_in list.now) (owners_in list.now) → AnswersFor (E.meaning engine.old) (E.sound engine.old) v → out.new ≡ overlaid out.old 0 (listing_of es (least (E.meaning engine.old).system v)) }
+    ensures count { (es : List Entry) → Tabled es (E.meaning engine.old).system (units_of units.now) (list_in list.now) (owners_in list.now) → AnswersFor (E.meaning engine.old) (E.sound engine.old) v → result ≡ length (listing_of es (least (E.meaning engine.old).system v)) }
     ensures stays { E.meaning engine.new ≡ E.meaning engine.old }
     ensures keeps { E.sound engine.old → E.sound engine.new }
 {

@@ -37,7 +37,7 @@ module _ (sys : System) (valid : Valid sys) where
     pub earlier : (k p q : ℕ) → k < var_count sys → p < var_count sys → q < var_count sys → Has sys (copy p q)
         → component (copy_reach sys) (get_or order k 0) p ≡ true → component (copy_reach sys) (get_or order k 0) q ≡ false
         → (j : ℕ) × (j < k) × (get_or order j 0 ≡ q)
-    earlier k p q hk hp hq has p_in q-out =
+    earlier k p q hk hp hq has p_in q_out =
         let v = get_or order k 0 in
         let hv : v < var_count sys = arranged.inside k hk in
         let (j, hj, is) = arranged.covers q hq in
@@ -45,11 +45,11 @@ module _ (sys : System) (valid : Valid sys) where
         elim (cases_order j k) [
           | inl e ↦
               let same : q ≡ v = sym is ∙ ap (λ x. get_or order x 0) e in
-              absurd (both_ways _ q-out (subst (λ x. component (copy_reach sys) v x ≡ true) (sym same) (is_member v v (here hv) (here hv))))
+              absurd (both_ways _ q_out (subst (λ x. component (copy_reach sys) v x ≡ true) (sym same) (is_member v v (here hv) (here hv))))
           | inr (inl lt) ↦ (j, lt, is)
           | inr (inr gt) ↦ absurd (arranged.sorted k j gt hj (subst (λ x. Above (copy_edge sys) x v) (sym is)
               (record {
                 there = walk_path sys valid q v down;
-                apart = λ path. both_ways _ q-out (is_member v q down (path_walk sys valid v q hv path));
+                apart = λ path. both_ways _ q_out (is_member v q down (path_walk sys valid v q hv path));
               })))
         ]

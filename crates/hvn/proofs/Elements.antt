@@ -97,8 +97,8 @@ module _ (sys : System) (valid : Valid sys) (reach number order : List ℕ) (b :
 
   says_copied : (p q : ℕ) → p < var_count sys → q < var_count sys → Has sys (copy p q)
       → component (copy_reach sys) v p ≡ true → component (copy_reach sys) v q ≡ false → Says Code (value sys (copy_reach sys) q) (get_or number q 0)
-  says_copied p q hp hq has p_in q-out =
-      let (j, lt, is) = earlier sys valid order arranged k p q hk hp hq has p_in q-out in
+  says_copied p q hp hq has p_in q_out =
+      let (j, lt, is) = earlier sys valid order arranged k p q hk hp hq has p_in q_out in
       subst (λ y. Says Code (value sys (copy_reach sys) y) (get_or number y 0)) is (says_variable j lt (stage.told j lt))
 
   says_kind : (m p o q : ℕ) → p < var_count sys → q < var_count sys → o < 8 → Has sys (of_kind m p o q)

@@ -201,7 +201,7 @@ module _ (sys : System) (valid : Valid sys) (flags : List Bool) (open_is : (v : 
   done_here (by_row none bits settled) = done_plain none bits settled
 
   pub progress_more : RowDone sys.words flags reach number (var_count sys) rows rows' k v x → x < 2817 → Progress sys order rows' new (k + 1)
-  progress_more row_done x-small = record {
+  progress_more row_done x_small = record {
     small = λ q. elim (cases_eq q v) [
       | inl e ↦ subst (λ y. get_or new y 0 < 2817) (sym e) (omega (arith, get_or-set_same number v x 0 long))
       | inr ne ↦ omega (arith, get_or-set_other number v q x 0 ne, progress.small q)

@@ -2,7 +2,7 @@
 ghost use Rattle.std.specs.Prelude.{◌≡◌};
 ghost use Rattle.std.specs.Str.{bytes_eq};
 ghost use Rattle.lexemes.specs.Texts.{name_in_text};
-ghost use Rattle.lexemes.specs.Lexemes.{sign_of, reserved as reservedOf};
+ghost use Rattle.lexemes.specs.Lexemes.{sign_of, reserved as reserved_of};
 
 #[derive(Clone, Copy)]
 pub enum Sign {
@@ -70,7 +70,7 @@ pub fn same(a: &[u8], b: &[u8]) -> bool
 }
 
 pub fn reserved(name: &[u8]) -> Option<Word>
-    ensures { result ≡ reservedOf name.now }
+    ensures { result ≡ reserved_of name.now }
 {
     if same(name, b"var") {
         Some(Word::Var)

@@ -2,7 +2,7 @@
 ghost use Rattle.std.specs.Prelude.{◌≡◌, ◌+◌, ◌-◌, ◌<◌, ◌≤◌, false, length, drop, ◌≢◌, slice_index, slice_range};
 ghost use Rattle.lexemes.specs.declared.class.Class.TheVariants.{Blank as Blanks, Letter as Letters, Digit as Digits, Sign as Signs};
 ghost use Rattle.lexemes.specs.Classes.{class_of};
-ghost use Rattle.lexemes.specs.Lexemes.{in_name, is_digit, digit_first, run, spelled as spelledAs, pieces_from};
+ghost use Rattle.lexemes.specs.Lexemes.{in_name, is_digit, digit_first, run, spelled as spelled_as, pieces_from};
 ghost use Rattle.lexemes.specs.Texts.{terminal, pieces_of, Onward};
 
 use crate::class::{Class, class_of};
@@ -53,7 +53,7 @@ fn name_end(text: &[u8], from: usize) -> usize
 // The reserved word or the name that these bytes are.
 fn spelled(text: &[u8], from: usize, to: usize) -> Lexeme
     requires { (from ≤ to) × (to ≤ length text.now) }
-    ensures { terminal text.now result ≡ spelledAs from (slice_range text.now from to) }
+    ensures { terminal text.now result ≡ spelled_as from (slice_range text.now from to) }
 {
     match reserved(&text[from..to]) {
         Some(word) => Lexeme::Word(word),

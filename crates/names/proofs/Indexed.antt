@@ -7,10 +7,10 @@ use Rattle.std.proofs.lemmas.Slice.Eq.{bytes_eq-Decides}
 use Rattle.std.proofs.lemmas.Bool.{cases_eq}
 use Rattle.std.proofs.lemmas.Nat.{mod_below}
 use Rattle.std.proofs.lemmas.List.{get_or_append_left, get_or_push, length_push, length-set}
-use Rattle.numbering.specs.Keys.{Fresh, Latest, latest-prop, Entry, Headed, Linked}
+use Rattle.numbering.specs.Keys.{Fresh, Latest, Latest-prop, Entry, Headed, Linked}
 use Rattle.numbering.specs.Lists.{hash_of}
 use Rattle.numbering.proofs.Chains.{headed_none, headed_push, linked_push}
-use Rattle.names.specs.Index.{key_at, same_key, hash_key, Index, index-prop}
+use Rattle.names.specs.Index.{key_at, same_key, hash_key, Index, Index-prop}
 
 latest_like : (P Q : ℕ → Type 0) (i h : ℕ) → ((j : ℕ) → j < i → P j → Q j) → ((j : ℕ) → j < i → Q j → P j) → Latest P i h → Latest Q i h
 latest_like P Q i h to from l = record {
@@ -114,10 +114,10 @@ entry_prop : (ks : List (List ℕ)) (b j : ℕ) → IsProp (Entry (same_key ks) 
 entry_prop ks b j = hlevel props
 
 entry_latest_prop : (ks : List (List ℕ)) (b i h : ℕ) → IsProp (Latest (Entry (same_key ks) (hash_key ks) b) i h)
-entry_latest_prop ks b i h = latest-prop (hlevel props) (Π_prop (λ pos. entry_prop ks b (h - 1))) (hlevel props)
+entry_latest_prop ks b i h = Latest-prop (hlevel props) (Π_prop (λ pos. entry_prop ks b (h - 1))) (hlevel props)
 
 pub index_fact : (ks : List (List ℕ)) (heads links : List ℕ) → IsProp (Index ks heads links)
 index_fact ks heads links =
-    index-prop (hlevel props) (hlevel props) (hlevel props)
+    Index-prop (hlevel props) (hlevel props) (hlevel props)
     (Π_prop (λ b. Π_prop (λ h. entry_latest_prop ks b (length ks) (get_or heads b 0))))
     (Π_prop (λ r. Π_prop (λ h. Π_prop (λ fresh. entry_latest_prop ks (hash_key ks r % 256) r (get_or links r 0)))))

@@ -25,4 +25,4 @@ pub record Index (ks : List (List ℕ)) (heads links : List ℕ) : Type 0 where
   pub fresh : (i : ℕ) → i < length ks → Fresh (same_key ks) i
   pub headed : Headed (same_key ks) (hash_key ks) heads (length ks)
   pub linked : Linked (same_key ks) (hash_key ks) links (length ks)
-  deriving IsProp as index-prop
+  deriving IsProp as Index-prop

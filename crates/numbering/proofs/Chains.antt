@@ -11,10 +11,10 @@ latest_none P = record { within = omega arith; holds = λ h. absurd (omega arith
 
 -- position i without P changes nothing
 latest_keep : (P : ℕ → Type 0) (i h : ℕ) → Latest P i h → (P i → ⊥) → Latest P (i + 1) h
-latest_keep P i h l no-i = record {
+latest_keep P i h l no_i = record {
   within = omega (arith, l.within);
   holds = l.holds;
-  none = λ j hj ji p. ⊎_elim (λ e. no-i (subst P e p)) (λ ne. l.none j hj (omega arith) p) (cases_eq j i);
+  none = λ j hj ji p. ⊎_elim (λ e. no_i (subst P e p)) (λ ne. l.none j hj (omega arith) p) (cases_eq j i);
 }
 
 -- position i with P is the last

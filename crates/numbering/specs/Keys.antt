@@ -25,7 +25,7 @@ pub record Latest (P : ℕ → Type 0) (i h : ℕ) : Type 0 where
   pub within : h ≤ i
   pub holds : 0 < h → P (h - 1)
   pub none : (j : ℕ) → h ≤ j → j < i → P j → ⊥
-  deriving IsProp as latest-prop
+  deriving IsProp as Latest-prop
 
 -- position j is the first of its key, and its key falls into bucket b of 256
 abbrev pub Entry : (ℕ → ℕ → Bool) → (ℕ → ℕ) → ℕ → ℕ → Type 0

@@ -10,7 +10,7 @@ use Rattle.constraints.proofs.Sound.{list_valid}
 use Rattle.rows.specs.Stores.{HasOf}
 use Rattle.rows.specs.declared.StoreFault.{StoreFault}
 use Rattle.rows.specs.declared.StoreFault.TheVariants.{Outside, Full}
-use Rattle.engine.specs.declared.fault.EngineFault.TheVariants.{Gathering, Outside as Outside-engine}
+use Rattle.engine.specs.declared.fault.EngineFault.TheVariants.{Gathering, Outside as OutsideEngine}
 
 -- of a variable and an object of the blocks no store refuses to tell
 pub no_fault : (P : Rows) (v o : ℕ) (e : StoreFault) → v < 256 → o < 256 → HasOf P v o (Err e) → ⊥
@@ -21,7 +21,7 @@ pub object_below : (l : ConstraintList) (o : ℕ) → 0 < length_of (system_of l
 object_below l o h = omega (arith, block_below (system_of l).blocks o 0 h, (list_valid l).few)
 
 -- an answered question is about a variable of the blocks
-pub admitted : (settled inside : Bool) (x : Unit {0}) → Ok x ≡ cond settled (cond inside (Ok tt) (Err Outside-engine)) (Err Gathering) → inside ≡ true
+pub admitted : (settled inside : Bool) (x : Unit {0}) → Ok x ≡ cond settled (cond inside (Ok tt) (Err OutsideEngine)) (Err Gathering) → inside ≡ true
 admitted true true x e = refl
 admitted true false x e = absurd (true≢false (ap is_ok e))
 admitted false inside x e = absurd (true≢false (ap is_ok e))

@@ -6,7 +6,7 @@ use Rattle.units.specs.Listing.{words_in, pointers_in}
 use Rattle.declarations.specs.declared.check.DeclarationMemory.{DeclarationMemory}
 use Rattle.declarations.specs.Declarations.{declarations_in}
 use Rattle.names.specs.declared.table.NameTable.{NameTable}
-use Rattle.names.specs.Notes.{standing as still-mentioned, then_note}
+use Rattle.names.specs.Notes.{standing as still_mentioned, then_note}
 use Rattle.names.specs.Held.{notes}
 use Rattle.books.specs.Books.{Units, standing, words, indirect_calls, Book}
 use Rattle.books.specs.Loads.{first_at, clash, too_many_variables}
@@ -78,14 +78,14 @@ module _ (h : HeldUnits) (u : ℕ) (text : List ℕ) (s : Sound h) (inside : u �
           → known_in names ≡ enter_all (known_in h.names) (declarations_in text)
           → nw ≡ length (words_in text) → nc ≡ length (pointers_in text) → h.words + nw ≤ 512 → h.calls + nc ≤ 64
           → Sound (record { slots = set h.slots u slot; names = names; words = h.words + nw; calls = h.calls + nc; memory = m })
-      load_sound slot names nw nc m put entered is-words is-calls few_words few_calls =
+      load_sound slot names nw nc m put entered is_words is_calls few_words few_calls =
           record {
             eight = length-set h.slots u slot ∙ s.eight;
             book = subst (λ (us : Units). Book (standing us)) (sym there) book;
             admitted = subst (λ (us : Units). (t : List ℕ) → t ∈ standing us → is_ok (outcome (read t)) ≡ true) (sym there) admitted;
             known = subst (λ (us : Units). Knows (notes names) (standing us)) (sym there) known;
-            words_counted = sym (ap (λ (us : Units). length (words (standing us))) there ∙ word_total nw is-words);
-            calls_counted = sym (ap (λ (us : Units). length (indirect_calls (standing us))) there ∙ call_total nc is-calls);
+            words_counted = sym (ap (λ (us : Units). length (words (standing us))) there ∙ word_total nw is_words);
+            calls_counted = sym (ap (λ (us : Units). length (indirect_calls (standing us))) there ∙ call_total nc is_calls);
           }
         where
           there : texts_in (set h.slots u slot) ≡ set (texts_in h.slots) u (Some text)
@@ -110,8 +110,8 @@ module _ (h : HeldUnits) (u : ℕ) (text : List ℕ) (s : Sound h) (inside : u �
                 faultless = fine.faultless;
                 no_clash = clear;
                 variables_in = variables_fit;
-                words_in = words_within _ _ (word_total nw is-words) few_words;
-                calls_in = calls_within _ _ (call_total nc is-calls) few_calls;
+                words_in = words_within _ _ (word_total nw is_words) few_words;
+                calls_in = calls_within _ _ (call_total nc is_calls) few_calls;
               })
 
 -- ---- an unload
@@ -144,18 +144,18 @@ module _ (h : HeldUnits) (u : ℕ) (text : List ℕ) (s : Sound h) (there : get_
   calls_less n e = omega (arith, takes.call_count, s.calls_counted, e)
 
   pub unload_sound : (slot : Slot) (names : NameTable) (nw nc : ℕ) → slot_text slot ≡ None
-      → ((n : List ℕ) → notes names n ≡ then_note still-mentioned (forget_all (notes h.names) (declarations_in text) n))
+      → ((n : List ℕ) → notes names n ≡ then_note still_mentioned (forget_all (notes h.names) (declarations_in text) n))
       → nw ≡ length (words_in text) → nc ≡ length (pointers_in text)
       → Sound (record { slots = set h.slots u slot; names = names; words = h.words - nw; calls = h.calls - nc; memory = h.memory })
-  unload_sound slot names nw nc struck swept is-words is-calls =
+  unload_sound slot names nw nc struck swept is_words is_calls =
       record {
         eight = length-set h.slots u slot ∙ s.eight;
         book = subst (λ (us : Units). Book (standing us)) (sym gone) (unload_keeps (texts_in h.slots) u s.book);
         admitted = subst (λ (us : Units). (t : List ℕ) → t ∈ standing us → is_ok (outcome (read t)) ≡ true) (sym gone) (λ t t_in. s.admitted t (still_stands (texts_in h.slots) u t t_in));
         known = subst (λ (us : Units). Knows (notes names) (standing us)) (sym gone)
             (unloaded (texts_in h.slots) u text (notes h.names) there s.book s.known (s.book.faultless text (stood_there _ u text there)) (notes names) swept);
-        words_counted = omega (arith, takes.word_count, s.words_counted, is-words, ap (λ (us : Units). length (words (standing us))) gone);
-        calls_counted = omega (arith, takes.call_count, s.calls_counted, is-calls, ap (λ (us : Units). length (indirect_calls (standing us))) gone);
+        words_counted = omega (arith, takes.word_count, s.words_counted, is_words, ap (λ (us : Units). length (words (standing us))) gone);
+        calls_counted = omega (arith, takes.call_count, s.calls_counted, is_calls, ap (λ (us : Units). length (indirect_calls (standing us))) gone);
       }
     where
       gone : texts_in (set h.slots u slot) ≡ set (texts_in h.slots) u None

@@ -112,6 +112,6 @@ drop_min n xs = go (leb n (length xs)) refl
 -- at most len bytes from an offset on, cut where the text ends
 pub part_is : (text : List ℕ) (from len start n : ℕ) → start ≡ min from (length text) → n ≡ min len (length (take (length text - start) (drop start text)))
     → take n (take (length text - start) (drop start text)) ≡ take len (drop from text)
-part_is text from len start n is_start is-n =
-    ap (λ (k : ℕ). take k (take (length text - start) (drop start text))) is-n ∙ take_min len (take (length text - start) (drop start text))
+part_is text from len start n is_start is_n =
+    ap (λ (k : ℕ). take k (take (length text - start) (drop start text))) is_n ∙ take_min len (take (length text - start) (drop start text))
     ∙ ap (take len) (take_rest text start ∙ ap (λ (k : ℕ). drop k text) is_start ∙ drop_min from text)

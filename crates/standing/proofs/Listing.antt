@@ -4,7 +4,7 @@ use Rattle.std.specs.List.{flat_map, AllByRecursion}
 use Rattle.std.proofs.lemmas.List.{append-nil, length-append, length-map, length-set, take_more_set}
 use Rattle.std.proofs.lemmas.Bool.{lt-ltb, cond-true}
 use Rattle.constraints.specs.Constraint.{System, variables}
-use Rattle.constraints.specs.Encoding.{word_of as constraint-word}
+use Rattle.constraints.specs.Encoding.{word_of as constraint_word}
 use Rattle.grammar.specs.Parse.{Statement}
 use Rattle.grammar.specs.Units.{statements_in}
 use Rattle.units.specs.declared.listing.ListedWord.{ListedWord}
@@ -98,7 +98,7 @@ module _ (es : List Entry) (known : List ℕ → Option Note) (few : variables (
       ∙ ap (λ (r : ℕ). word_of_parts (first_of es w.left.name + w.left.slot) (r + w.right.slot)) (first_same w.right.name (omega (arith, lawful.right_in)))
     where
       word_of_parts : ℕ → ℕ → ℕ
-      word_of_parts p q = constraint-word w.kind p w.offset q
+      word_of_parts p q = constraint_word w.kind p w.offset q
 
   words_same : (ws : List Named) → AllByRecursion (Lawful es) ws → map (word (λ n. first_at (known n))) ws ≡ map (word (first_of es)) ws
   words_same [] all = refl

@@ -8,7 +8,7 @@ use Rattle.declarations.specs.Declarations.{Entry, size_of, Mention, declares, u
 use Rattle.declarations.proofs.Kept.{all_declarations}
 use Rattle.names.specs.declared.record.Note.{Note}
 use Rattle.names.specs.declared.table.NameTable.{NameTable}
-use Rattle.names.specs.Notes.{weight, width, listed, Once as Once-listed, sum_over}
+use Rattle.names.specs.Notes.{weight, width, listed, Once as OnceListed, sum_over}
 use Rattle.names.specs.Held.{notes, variables_of}
 use Rattle.names.proofs.Held.{variables_over}
 use Rattle.books.specs.Members.{any_of}
@@ -41,7 +41,7 @@ listed_size (e ∷ es) n = go (bytes_eq e.name n) (listed_size es n)
     go true rest = sym (lt-ltb 0 (suc e.slots) (omega arith))
     go false rest = rest
 
-names_once : (es : List Entry) → Once es → Once-listed (map name_in_entry es)
+names_once : (es : List Entry) → Once es → OnceListed (map name_in_entry es)
 unfolding name_in_entry
 names_once [] once = tt
 names_once (e ∷ es) (new, once) = (listed_size es e.name ∙ le-ltb 0 (size_of es e.name) (omega arith), names_once es once)
@@ -159,7 +159,7 @@ module _ (units : Units) (u : ℕ) (text : List ℕ) (t : NameTable) (inside : u
 
       go : (b : Bool) → fit_all (known_in t) (declarations_in text) ≡ b → Outcome (known_in t) (table (standing units)) (declarations_in text) b → Loaded t text (standing (set units u (Some text))) b
       go true fits (all_fit sum within) = known_all (load_knows fits) (le-ltb 256 _ (omega (arith, total)))
-      go false refused (too_many more-than) = over (lt-ltb 256 _ (omega (arith, total)))
+      go false refused (too_many more_than) = over (lt-ltb 256 _ (omega (arith, total)))
 
   pub load_known : fit_all (known_in t) (declarations_in text) ≡ true
       → Knows (enter_all (known_in t) (declarations_in text)).known (standing (set units u (Some text))) × (too_many_variables (standing (set units u (Some text))) ≡ false)

@@ -132,13 +132,13 @@ module _ (units : Units) (es : List Entry) (known after : List ℕ → Option No
     (fits : Fits units es e owner (known e.name)) (laid : Laid units es known l) where
   pub lay_new : first_in (known e.name) ≡ 256 → len ≡ suc e.slots → after ≡ put_at l.variables known e.name
       → (l.block_count < 256 → l.variables ≤ 256 → Pushed len owner l l') → Laid units (lay_entry es e) after l'
-  lay_new nowhere length-is is push =
+  lay_new nowhere length_is is push =
       subst (λ (fs : List Entry). Laid units fs after l') (sym now_laid)
       (record {
         few = room;
         count = pushed.count ∙ ap (λ (x : ℕ). x + 1) laid.count ∙ sym (length-append es (e ∷ []));
-        total = pushed.variables ∙ omega (arith, laid.total, length-is, wider);
-        lengths = pushed.blocks ∙ ap (λ (ls : List ℕ). ls ++ len ∷ []) laid.lengths ∙ ap (λ (x : ℕ). blocks es ++ x ∷ []) length-is ∙ sym (blocks_push es e);
+        total = pushed.variables ∙ omega (arith, laid.total, length_is, wider);
+        lengths = pushed.blocks ∙ ap (λ (ls : List ℕ). ls ++ len ∷ []) laid.lengths ∙ ap (λ (x : ℕ). blocks es ++ x ∷ []) length_is ∙ sym (blocks_push es e);
         owned = ap (map (owned_name units)) pushed.owners ∙ map-append (owned_name units) (owners_in l) (owner ∷ [])
             ∙ ap (λ (ns : List (List ℕ)). ns ++ owned_name units owner ∷ []) laid.owned ∙ ap (λ (n : List ℕ). map name_in_entry es ++ n ∷ []) fits.read
             ∙ sym (map-append name_in_entry es (e ∷ []));
@@ -186,11 +186,11 @@ module _ (known after : List ℕ → Option Note) (is : (n : List ℕ) → after
       }
 
   pub laid_none : (units : Units) (l : UnitList) → l.block_count ≡ 0 → l.variables ≡ 0 → Laid units [] after l
-  laid_none units l none no-variables =
+  laid_none units l none no_variables =
       record {
         few = omega arith;
         count = none;
-        total = no-variables;
+        total = no_variables;
         lengths = ap (λ (k : ℕ). take k l.blocks) none;
         owned = ap (λ (k : ℕ). map (owned_name units) (take k l.owners)) none;
         firsts = λ n. ap first_in (is n) ∙ unplaced (known n);

@@ -11,7 +11,7 @@ use Rattle.names.specs.declared.record.NameRecord.{NameRecord}
 use Rattle.names.specs.declared.table.NameTable.{NameTable}
 use Rattle.names.specs.Notes.{note_of}
 use Rattle.names.specs.Held.{held, notes}
-use Rattle.books.specs.Books.{Units, standing, table, words, indirect_calls, Book, book-prop}
+use Rattle.books.specs.Books.{Units, standing, table, words, indirect_calls, Book, Book-prop}
 use Rattle.books.proofs.Loads.{nothing_stands}
 use Rattle.standing.specs.declared.held.HeldUnits.{HeldUnits}
 use Rattle.standing.specs.declared.slot.Slot.{Slot}
@@ -22,7 +22,7 @@ use Rattle.standing.specs.Firsts.{first_in, laid_first}
 use Rattle.standing.specs.Loads.{unless}
 use Rattle.standing.specs.Refusals.{done_or}
 use Rattle.standing.specs.States.{units_of, LaidOut}
-use Rattle.standing.specs.Knowledge.{slot_text, size_in, units_in, defined_in, Sound, Sound-prop, knows-prop}
+use Rattle.standing.specs.Knowledge.{slot_text, size_in, units_in, defined_in, Sound, Sound-prop, Knows-prop}
 
 option_discrete : Discrete (Option ℕ)
 option_discrete None None = yes refl
@@ -32,11 +32,11 @@ option_discrete (Some a) (Some b) = elim (ℕ_discrete a b) [ yes e ↦ yes (ap 
 
 book_fact : (texts : List (List ℕ)) → IsProp (Book texts)
 book_fact texts =
-    book-prop (Π_prop (λ t. Π_prop (λ m. hedberg option_discrete _ _)))
+    Book-prop (Π_prop (λ t. Π_prop (λ m. hedberg option_discrete _ _)))
     (Π_prop (λ t. Π_prop (λ u. Π_prop (λ n. Π_prop (λ a. Π_prop (λ b. Π_prop (λ x. Π_prop (λ y. hlevel props)))))))) (hlevel props) (hlevel props) (hlevel props) (hlevel props)
 
 pub is_sound : {h : HeldUnits} → ∥ Sound h ∥₁ → Sound h
-is_sound {h} s = ∥∥₁_elim s (Sound-prop (hlevel props) (book_fact _) (hlevel props) (knows-prop (hlevel props) (hlevel props) (hlevel props)) (hlevel props) (hlevel props)) (λ x. x)
+is_sound {h} s = ∥∥₁_elim s (Sound-prop (hlevel props) (book_fact _) (hlevel props) (Knows-prop (hlevel props) (hlevel props) (hlevel props)) (hlevel props) (hlevel props)) (λ x. x)
 
 -- a text that is admitted, as the passes ask for it
 pub was_read : (r : Result (Unit {0}) UnitFault) → is_ok r ≡ true → Ok tt ≡ r

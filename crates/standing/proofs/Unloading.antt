@@ -5,7 +5,7 @@ use Rattle.std.proofs.lemmas.Bool.{lt-ltb, le-ltb, ltb-true, ltb-false, cond-tru
 use Rattle.declarations.specs.Declarations.{Entry, size_of, entry, declared_in, declarations_in, fault_in}
 use Rattle.declarations.proofs.Kept.{all_declarations}
 use Rattle.names.specs.declared.record.Note.{Note}
-use Rattle.names.specs.Notes.{standing as still-mentioned, then_note}
+use Rattle.names.specs.Notes.{standing as still_mentioned, then_note}
 use Rattle.books.specs.Members.{any_of}
 use Rattle.books.specs.Tables.{Once}
 use Rattle.books.specs.Books.{Units, standing, table, declaring, defining, defines, defines_at, declares_name, Book}
@@ -19,7 +19,7 @@ use Rattle.standing.proofs.Forgetting.{Less, forgotten}
 use Rattle.standing.proofs.Loading.{defined_by}
 
 -- a note after a sweep, by how many units mention it
-swept_size : (o : Option Note) → size_in (then_note still-mentioned o) ≡ cond (ltb 0 (units_in o)) (size_in o) 0
+swept_size : (o : Option Note) → size_in (then_note still_mentioned o) ≡ cond (ltb 0 (units_in o)) (size_in o) 0
 swept_size None = refl
 swept_size (Some note) = go (ltb 0 note.units)
   where
@@ -27,7 +27,7 @@ swept_size (Some note) = go (ltb 0 note.units)
     go true = refl
     go false = refl
 
-swept_units : (o : Option Note) → units_in (then_note still-mentioned o) ≡ units_in o
+swept_units : (o : Option Note) → units_in (then_note still_mentioned o) ≡ units_in o
 swept_units None = refl
 swept_units (Some note) = go (ltb 0 note.units) refl
   where
@@ -35,7 +35,7 @@ swept_units (Some note) = go (ltb 0 note.units) refl
     go true e = refl
     go false e = let z = ltb-false 0 note.units e in omega arith
 
-swept_defined : (o : Option Note) → defined_in (then_note still-mentioned o) ≡ cond (ltb 0 (units_in o)) (defined_in o) false
+swept_defined : (o : Option Note) → defined_in (then_note still_mentioned o) ≡ cond (ltb 0 (units_in o)) (defined_in o) false
 swept_defined None = refl
 swept_defined (Some note) = go (ltb 0 note.units)
   where
@@ -92,7 +92,7 @@ module _ (units : Units) (u : ℕ) (text : List ℕ) (known : List ℕ → Optio
       ∙ ap (λ (b : Bool). ltb 0 (defining (standing (set units u None)) n + cond (defines text n) 1 0) && not b) (defined_by text n)
       ∙ left_defined (defining (standing (set units u None)) n) (defines text n) (omega (arith, book.defined_once n, fewer.defined n))
 
-  pub unloaded : (after : List ℕ → Option Note) → ((n : List ℕ) → after n ≡ then_note still-mentioned (forget_all known (declarations_in text) n)) → Knows after (standing (set units u None))
+  pub unloaded : (after : List ℕ → Option Note) → ((n : List ℕ) → after n ≡ then_note still_mentioned (forget_all known (declarations_in text) n)) → Knows after (standing (set units u None))
   unloaded after swept =
       record {
         sizes = λ n. ap size_in (swept n) ∙ swept_size (forget_all known (declarations_in text) n) ∙ by_size n;

@@ -34,7 +34,7 @@ pub record Knows (known : List ℕ → Option Note) (texts : List (List ℕ)) : 
   pub sizes : (n : List ℕ) → size_in (known n) ≡ size_of (table texts) n
   pub counts : (n : List ℕ) → units_in (known n) ≡ declaring texts n
   pub defined : (n : List ℕ) → defined_in (known n) ≡ nat_lt 0 (defining texts n)
-  deriving IsProp as knows-prop
+  deriving IsProp as Knows-prop
 
 -- the texts are units and can stand together, the table knows their names, and their words and indirect calls are counted
 pub record Sound (h : HeldUnits) : Type 0 where

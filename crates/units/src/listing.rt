@@ -1,7 +1,7 @@
 // The words of a whole text, in order.
 ghost use Rattle.std.specs.Prelude.{◌≡◌, ◌+◌, ◌≤◌, length, slice_set};
 ghost use Rattle.grammar.specs.Meanings.{statement_in};
-ghost use Rattle.units.specs.Listing.{listed, listing as listingOf, overlaid, words_in};
+ghost use Rattle.units.specs.Listing.{listed, listing as listing_of, overlaid, words_in};
 
 use crate::names::FirstVariables;
 use crate::words::{word_at, word_count};
@@ -61,8 +61,8 @@ pub fn list_words<N: FirstVariables>(
     out: &mut [ListedWord],
     from: usize,
 ) -> usize
-    ensures written { out.new ≡ overlaid out.old from (listingOf (N.first names.now) unit text.now) }
-    ensures count { result ≡ length (listingOf (N.first names.now) unit text.now) }
+    ensures written { out.new ≡ overlaid out.old from (listing_of (N.first names.now) unit text.now) }
+    ensures count { result ≡ length (listing_of (N.first names.now) unit text.now) }
 {
     if let Err(_) = check_text(text) {
         return 0;
