@@ -1,7 +1,7 @@
 use Rattle.std.proofs.Common.{◌≡◌, subst, arith}
 use Rattle.graphs.specs.Order.{Arranged}
 use Rattle.graphs.proofs.Orders.{arranged_more, nodes_more}
-use Rattle.graphs.proofs.reach.place_nodes.Goals as goal
+use Rattle.graphs.proofs.reach.arrange.Goals as goal
 
 pub loop-u-preserved : goal.loop-u-preserved
 loop-u-preserved c =
