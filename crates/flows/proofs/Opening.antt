@@ -86,6 +86,10 @@ opens_elim sys v (copy p q) t = absurd t
 opens_elim sys v (load p q k) t = absurd t
 opens_elim sys v (store p k q) t = absurd t
 
+pub opens_at : (blocks : List ℕ) (c : Constraint) (p o a v : ℕ) → c ≡ address p o → a ≡ o
+    → (leb a v && ltb v (a + length_of blocks a)) ≡ opens blocks c v
+opens_at blocks c p o a v is same = ap (λ x. leb x v && ltb v (x + length_of blocks x)) same ∙ ap (λ k. opens blocks k v) (sym is)
+
 -- the words open exactly the open variables
 module _ (sys : System) (v : ℕ) where
   opened_there : T (any (length sys.words) (λ i. opens sys.blocks (decode (get_or sys.words i 0)) v)) → T (is_open sys v)

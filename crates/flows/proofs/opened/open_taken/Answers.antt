@@ -1,11 +1,9 @@
-use Rattle.std.proofs.Common.{◌≡◌, ◌+◌, ◌<◌, ◌≤◌, ◌&&◌, ◌||◌, true, false, ltb, leb, get_or, replicate, sym, ap, ◌∙◌, subst, rules, arith}
-use Rattle.constraints.specs.declared.constraint.Constraint.TheVariants.{Address as address}
+use Rattle.std.proofs.Common.{◌≡◌, ◌+◌, ◌<◌, ◌≤◌, ◌&&◌, ◌||◌, true, false, ltb, leb, get_or, replicate, ap, ◌∙◌, subst, rules, arith}
 use Rattle.constraints.specs.Constraint.{variables}
 use Rattle.constraints.specs.Lists.{system_of}
 use Rattle.constraints.proofs.Sound.{list_valid}
 use Rattle.flows.specs.Names.{NamesBelow}
-use Rattle.flows.specs.Opens.{opens}
-use Rattle.flows.proofs.Opening.{block_end, flags_filled}
+use Rattle.flows.proofs.Opening.{block_end, flags_filled, opens_at}
 use Rattle.flows.proofs.opened.open_taken.Goals as goal
 
 pub slice_bounds-fill-end : goal.slice_bounds-fill-end
@@ -30,4 +28,4 @@ returns-in-Address c v =
     let filled : c.fill.new.self ≡ replicate n true = search rules in
     flags_filled flags c.fill.new.self first n _ (omega arith) (omega arith) filled v
     ∙ ap (λ m. get_or flags v false || (leb first v && ltb v (first + m))) (c.from.ensures ∙ c.length_of.ensures)
-    ∙ ap (λ k. get_or flags v false || opens blocks k v) (ap (address _) c.from-first.ensures ∙ sym c.in-Address.is)
+    ∙ ap (λ b. get_or flags v false || b) (opens_at blocks c.args.constraint _ _ first v c.in-Address.is c.from-first.ensures)
