@@ -2,5 +2,7 @@ pub mod Grammar
 pub mod Automaton
 pub mod Faults
 pub mod Parse
+pub mod Given
 pub mod Meanings
 pub mod Units
+pub mod Items
