@@ -6,3 +6,4 @@ pub mod Given
 pub mod Meanings
 pub mod Units
 pub mod Items
+pub mod Texts
