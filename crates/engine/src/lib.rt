@@ -15,52 +15,41 @@ pub use hand::hand_down;
 pub trait Engine {
     ghost meaning: { Self → Meaning };
 
-    // What the calls' promises rest on: `clear` gives it from any state, and every call keeps it.
-    // Of a layer it says that the engine below holds the reduced list; a ghost field could not speak of that engine.
-    ghost sound: { Self → Type 0 };
-
     // A list whose smallest solution has at most room pairs fits.
     ghost roomy: { (s : Self) → Roomy (meaning s).rule };
 
     // Empty and gathering again, whatever the state was.
     fn clear(&mut self)
-        ensures after { meaning self.new ≡ gathering (meaning self.old) no_words }
-        ensures keeps { sound self.new };
+        ensures after { meaning self.new ≡ gathering (meaning self.old) no_words };
 
     // Appends a block of n variables and answers its first variable.
     fn block(&mut self, n: u8) -> Result<u16, EngineFault>
-        ensures replies { sound self.old → result ≡ block_answer (meaning self.old) n }
-        ensures after { sound self.old → meaning self.new ≡ block_added (meaning self.old) n }
-        ensures keeps { sound self.old → sound self.new };
+        ensures replies { result ≡ block_answer (meaning self.old) n }
+        ensures after { meaning self.new ≡ block_added (meaning self.old) n };
 
     // Appends a word.
     fn add(&mut self, word: u32) -> Result<(), EngineFault>
-        ensures replies { sound self.old → result ≡ add_answer (meaning self.old) word }
-        ensures after { sound self.old → meaning self.new ≡ word_added (meaning self.old) word }
-        ensures keeps { sound self.old → sound self.new };
+        ensures replies { result ≡ add_answer (meaning self.old) word }
+        ensures after { meaning self.new ≡ word_added (meaning self.old) word };
 
     // Gathering becomes settled, or the list does not fit.
     fn settle(&mut self) -> Result<(), EngineFault>
-        ensures settles { sound self.old → Settles (meaning self.old) (meaning self.new) result }
-        ensures keeps { sound self.old → sound self.new };
+        ensures settles { Settles (meaning self.old) (meaning self.new) result };
 
     // Whether row v of the smallest solution holds o.
     fn holds(&mut self, v: u16, o: u16) -> Result<bool, EngineFault>
-        ensures replies { sound self.old → result ≡ holds_answer (meaning self.old) v o }
-        ensures stays { meaning self.new ≡ meaning self.old }
-        ensures keeps { sound self.old → sound self.new };
+        ensures replies { result ≡ holds_answer (meaning self.old) v o }
+        ensures stays { meaning self.new ≡ meaning self.old };
 
     // The smallest object of row v at or above `from`.
     fn next(&mut self, v: u16, from: u16) -> Result<Option<u16>, EngineFault>
-        ensures replies { sound self.old → result ≡ next_answer (meaning self.old) v from }
-        ensures stays { meaning self.new ≡ meaning self.old }
-        ensures keeps { sound self.old → sound self.new };
+        ensures replies { result ≡ next_answer (meaning self.old) v from }
+        ensures stays { meaning self.new ≡ meaning self.old };
 
     // How many objects row v has.
     fn size(&mut self, v: u16) -> Result<u16, EngineFault>
-        ensures replies { sound self.old → result ≡ size_answer (meaning self.old) v }
-        ensures stays { meaning self.new ≡ meaning self.old }
-        ensures keeps { sound self.old → sound self.new };
+        ensures replies { result ≡ size_answer (meaning self.old) v }
+        ensures stays { meaning self.new ≡ meaning self.old };
 
     // How many pairs always fit.
     fn room(&self) -> u32

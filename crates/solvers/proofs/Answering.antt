@@ -1,6 +1,5 @@
 -- Questions about a variable of the blocks are answered by the store.
-use Rattle.std.proofs.Common.{◌≡◌, ℕ, ◌<◌, Bool, true, false, cond, is_ok, Ok, Err, refl, ap, ⊎_elim, arith}
-use Rattle.std.proofs.lemmas.Bool.{true≢false}
+use Rattle.std.proofs.Common.{◌≡◌, ℕ, ◌<◌, Bool, true, false, cond, Ok, Err, refl, ⊎_elim, arith}
 use Rattle.constraints.specs.Rows.{Rows}
 use Rattle.constraints.specs.Constraint.{length_of}
 use Rattle.constraints.specs.Lists.{system_of}
@@ -23,5 +22,5 @@ object_below l o h = omega (arith, block_below (system_of l).blocks o 0 h, (list
 -- an answered question is about a variable of the blocks
 pub admitted : (settled inside : Bool) (x : Unit {0}) → Ok x ≡ cond settled (cond inside (Ok tt) (Err OutsideEngine)) (Err Gathering) → inside ≡ true
 admitted true true x e = refl
-admitted true false x e = absurd (true≢false (ap is_ok e))
-admitted false inside x e = absurd (true≢false (ap is_ok e))
+admitted true false x e = absurd cc
+admitted false inside x e = absurd cc

@@ -1,5 +1,6 @@
 -- From the words taken in to the whole list.
-use Rattle.std.proofs.Common.{◌≡◌, ℕ, ◌+◌, ◌<◌, ◌≤◌, length, Err, sym, not-suc-le-zero, arith}
+use Rattle.std.proofs.Common.{◌≡◌, ℕ, ◌+◌, ◌<◌, ◌≤◌, length, Ok, Err, Result, MatchResult, sym, not-suc-le-zero, arith}
+use Rattle.std.specs.Result.{IsErrAnd}
 use Rattle.constraints.specs.Rows.{Rows, empty, total}
 use Rattle.constraints.specs.Constraint.{System, Closed, first}
 use Rattle.constraints.specs.Least.{least}
@@ -9,6 +10,7 @@ use Rattle.constraints.proofs.Solver.{position_is}
 use Rattle.rows.specs.declared.StoreFault.{StoreFault}
 use Rattle.rows.specs.declared.StoreFault.TheVariants.{Outside, Full}
 use Rattle.rows.proofs.Counts.{total_empty}
+use Rattle.engine.specs.declared.fault.Stopped.{Stopped}
 use Rattle.solvers.specs.Taking.{Took, Overfull}
 
 -- no words, no pairs
@@ -33,3 +35,12 @@ overfull n sys P Q I i (Full v o) i_in so_far fits (held, more) =
       more = omega (arith, more, total_mono (least (first (i + 1) sys)) (least sys) (first_within (i + 1) sys));
       pair = (v, o, λ i. Full v o, first_within (i + 1) sys v o held);
     }
+
+-- the same, of the fault as it is handed on
+pub overfull_as : (n : ℕ) (sys : System) (P Q : Rows) (I : Type 0) (i : ℕ) (r : Result (Unit {0}) StoreFault) (m : Result (Unit {0}) Stopped) (t : Stopped)
+    (As : StoreFault → Stopped → Type 0) → i < length sys.words → P ≡ least (first i sys) → total P ≤ n → Took n sys i Q I r
+    → MatchResult r (λ x. m ≡ Ok x) (λ e. IsErrAnd m (As e)) → ((e : StoreFault) (s : Stopped) → As e s → s ≡ record { position = i; store = e })
+    → m ≡ Err t → Overfull n sys t
+overfull_as n sys P Q I i (Ok x) m t As i_in so_far fits took ok wraps err = absurd cc
+overfull_as n sys P Q I i (Err e) m t As i_in so_far fits took told wraps err =
+    rw (wraps e t (rw err at told)) (overfull n sys P Q I i e i_in so_far fits took)

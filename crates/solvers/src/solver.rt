@@ -1,8 +1,9 @@
 // The engine over any propagation.
-ghost use Rattle.std.specs.Prelude.{◌≡◌, false, nat_lt};
+ghost use Rattle.std.specs.Prelude.{◌≡◌, false, nat_lt, cond, Ok, Err};
 ghost use Rattle.constraints.specs.Lists.{system_of, no_words};
 ghost use Rattle.constraints.specs.Constraint.{var_count};
 ghost use Rattle.engine.specs.Meanings.{answer};
+ghost use Rattle.engine.specs.declared.fault.EngineFault.TheVariants.{Settled};
 ghost use Rattle.solvers.specs.Taking.{SettledList, solver_meaning, Solved};
 ghost use Rattle.solvers.specs.Roominess.{solver_roomy};
 
@@ -18,13 +19,10 @@ fn settle_list<P: Propagation>(list: &ConstraintList, work: &mut P) -> Result<()
 {
     work.restart();
     for i in 0..list.words().len() {
-        match work.take_in(list, i) {
-            Ok(()) => {}
-            Err(store) => return Err(Stopped {
-                position: i as u16,
-                store,
-            }),
-        }
+        work.take_in(list, i).map_err(|store| Stopped {
+            position: i as u16,
+            store,
+        })?;
     }
     Ok(())
 }
@@ -35,18 +33,29 @@ pub struct Solver<P: Propagation> {
     list: ConstraintList,
     work: P,
     settled: bool,
+    ghost solved: { Solved (P.Propagation.rows work) (system_of list) settled },
 }
 
 impl<P: Propagation> Solver<P> {
     // Empty and gathering, over rows in any state.
     pub fn new(work: P) -> Self
         ensures means { solver_meaning (P.limit result.work) (system_of result.list) result.settled ≡ solver_meaning (P.limit work) no_words false }
-        ensures keeps { Solved (P.rows result.work) (system_of result.list) result.settled }
     {
         Solver {
             list: ConstraintList::new(),
             work,
             settled: false,
+        }
+    }
+
+    // Whether the list may still change.
+    fn gathering(&self) -> Result<(), EngineFault>
+        ensures { result ≡ cond self.now.settled (Err Settled) (Ok tt) }
+    {
+        if self.settled {
+            Err(EngineFault::Settled)
+        } else {
+            Ok(())
         }
     }
 
@@ -67,33 +76,25 @@ impl<P: Propagation> Solver<P> {
 impl<P: Propagation> Engine for Solver<P> {
     ghost meaning = { λ s. solver_meaning (P.Propagation.limit s.work) (system_of s.list) s.settled };
 
-    ghost sound = { λ s. Solved (P.Propagation.rows s.work) (system_of s.list) s.settled };
-
     ghost roomy = { λ s. solver_roomy (P.Propagation.limit s.work) };
 
     fn clear(&mut self) {
-        self.list.clear();
         self.settled = false;
+        self.list.clear();
     }
 
     fn block(&mut self, n: u8) -> Result<u16, EngineFault> {
-        if self.settled {
-            return Err(EngineFault::Settled);
-        }
+        self.gathering()?;
         Ok(self.list.block(n)?)
     }
 
     fn add(&mut self, word: u32) -> Result<(), EngineFault> {
-        if self.settled {
-            return Err(EngineFault::Settled);
-        }
+        self.gathering()?;
         Ok(self.list.add(word)?)
     }
 
     fn settle(&mut self) -> Result<(), EngineFault> {
-        if self.settled {
-            return Err(EngineFault::Settled);
-        }
+        self.gathering()?;
         settle_list(&self.list, &mut self.work)?;
         self.settled = true;
         Ok(())

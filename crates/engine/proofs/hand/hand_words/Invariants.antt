@@ -2,9 +2,7 @@ use Rattle.std.proofs.Common.{◌≡◌, take}
 use Rattle.engine.specs.Meanings.{gathering}
 use Rattle.engine.proofs.hand.hand_words.Given as goal
 
--- the first i words are handed down
-abbrev pub invariant-loop-i : goal.invariant-loop-i
-invariant-loop-i g l =
-    let e = g.E.Engine in
-    (e.sound l.below)
-    × (e.meaning l.below ≡ gathering (e.meaning l.initial.below) (record { blocks = l.blocks; words = take l.i l.words }))
+-- the words so far are handed down
+abbrev pub invariant-loop-word : goal.invariant-loop-word
+invariant-loop-word g l =
+    g.E.Engine.meaning l.below ≡ gathering (g.E.Engine.meaning l.initial.below) (record { blocks = l.blocks; words = take l.word-index l.words })

@@ -9,7 +9,7 @@ use Rattle.solvers.proofs.solver.settle_list.Given as goal
 abbrev pub invariant-loop-i : goal.invariant-loop-i
 invariant-loop-i g l =
     let p = g.P.Propagation in
-    (p.rows l.work ≡ least (first l.i (system_of l.list)))
+    (p.rows l.work ≡ least (first l.i-counter (system_of l.list)))
     × (total (p.rows l.work) ≤ p.limit l.initial.work)
     × p.idle l.work
     × (p.limit l.work ≡ p.limit l.initial.work)
