@@ -4,3 +4,4 @@ pub mod Faults
 pub mod Parse
 pub mod Meanings
 pub mod Units
+pub mod Texts

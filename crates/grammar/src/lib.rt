@@ -6,3 +6,4 @@ pub mod reader;
 pub mod state;
 mod step;
 pub mod unit;
+pub mod unit_text;

@@ -6,7 +6,7 @@ use crate::reader::{check_grammar, next_item};
 use crate::state::Found;
 use lexemes::location::Location;
 
-const LONGEST_TEXT: usize = 4096;
+pub(crate) const LONGEST_TEXT: usize = 4096;
 
 // Why a lone text is refused.
 #[derive(Clone, Copy, Drop)]
