@@ -7,7 +7,7 @@ mod options;
 mod report;
 mod source;
 
-use analyser::{AuditReport, Call, Reply, audit, replay};
+use analyser::{AuditReport, Call, Done, Reply, audit, replay};
 use failure::Failure;
 use journal::Entry;
 use options::Command;
@@ -36,10 +36,10 @@ fn standing<'a>(
     let mut loads = BTreeMap::new(rt.alloc());
     for (call, reply) in calls.iter().zip(replies.iter()) {
         match (call, reply) {
-            (Call::Load { unit, text: _ }, Reply::Loaded) => {
+            (Call::Load { unit, text: _ }, Ok(Done::Loaded)) => {
                 loads.insert(*unit, *call)?;
             }
-            (Call::Unload { unit }, Reply::Unloaded) => {
+            (Call::Unload { unit }, Ok(Done::Unloaded)) => {
                 loads.remove(unit);
             }
             _ => {}
@@ -57,11 +57,9 @@ fn show_calls(rt: &HostRuntime, lines: &[Line<'_>], replies: &[Reply]) -> Result
         println!(rt; "{shown}")?;
     }
     let calls = replies.len();
-    let refused = replies
-        .iter()
-        .filter(|reply| matches!(reply, Reply::Refused(_)))
-        .count();
-    let answered = calls.saturating_sub(refused);
+    let answered = replies.iter().filter(|reply| reply.is_ok()).count();
+    let answered = replies.iter().filter(|reply| reply.is_ok()).count();
+    let refused = replies.iter().filter(|reply| reply.is_err()).count();
     println!(rt; "")?;
     println!(rt; "{calls} calls, {answered} answered, {refused} refused")?;
     Ok(())

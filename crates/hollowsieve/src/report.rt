@@ -1,5 +1,5 @@
 // The lines that the program prints. Others parse them: their form is fixed.
-use analyser::{Refusal, Reply};
+use analyser::{Done, Refusal, Reply};
 use grammar::unit::UnitFault;
 use lexemes::location::Location;
 use std::fmt;
@@ -40,9 +40,9 @@ impl fmt::Display for CallLine<'_> {
             f.write_str(word)?;
         }
         match self.reply {
-            Reply::Loaded => f.write_str(": loaded"),
-            Reply::Unloaded => f.write_str(": unloaded"),
-            Reply::Refused(refusal) => {
+            Ok(Done::Loaded) => f.write_str(": loaded"),
+            Ok(Done::Unloaded) => f.write_str(": unloaded"),
+            Err(refusal) => {
                 let number = refusal.number();
                 let words = meaning(refusal);
                 write!(f, ": refused {number} ({words})")?;
@@ -58,13 +58,9 @@ impl fmt::Display for CallLine<'_> {
     }
 }
 
-// All that a reply tells: the refusal's number and place, if it is one.
-fn told(reply: Reply) -> Option<(u32, Option<Location>)> {
-    match reply {
-        Reply::Loaded => None,
-        Reply::Unloaded => None,
-        Reply::Refused(refusal) => Some((refusal.number(), location(refusal))),
-    }
+// All that a reply tells: of a refusal its number and place.
+fn told(reply: Reply) -> Result<Done, (u32, Option<Location>)> {
+    reply.map_err(|refusal| (refusal.number(), location(refusal)))
 }
 
 // How many replies differ, place by place.
