@@ -1,23 +1,22 @@
 -- Two histories that go on from the same texts are replied alike.
-use Rattle.std.proofs.Common.{◌≡◌, ℕ, ◌<◌, not, ltb, List, [], ◌∷◌, length, get_or, take, set, is_some, Some, None, Option, sym, ap, ◌∙◌, arith}
+use Rattle.std.proofs.Common.{◌≡◌, ℕ, ◌<◌, not, ltb, List, [], ◌∷◌, length, get_or, take, set, is_some, Some, None, Ok, Option, sym, ap, ◌∙◌, arith}
 use Rattle.std.proofs.lemmas.List.{ext_get_or}
 use Rattle.declarations.specs.Verdicts.{unit_verdict}
 use Rattle.analyser.specs.declared.Call.{Call}
 use Rattle.analyser.specs.declared.Call.TheVariants.{Load, Unload}
-use Rattle.analyser.specs.declared.Reply.{Reply}
-use Rattle.analyser.specs.declared.Reply.TheVariants.{Loaded, Unloaded}
+use Rattle.analyser.specs.declared.Done.TheVariants.{Loaded, Unloaded}
 use Rattle.analyser.specs.declared.refusal.Refusal.{Refusal}
 use Rattle.analyser.specs.declared.refusal.Refusal.TheVariants.{NoSuchUnit, UnitStands, NothingStands}
 use Rattle.analyser.specs.Books.{Book, unless, unsettled, load_refusal, unload_refusal}
-use Rattle.analyser.specs.Histories.{Says, History, next_book, book_from, refused_or, call_at, reply_at}
-use Rattle.analyser.specs.Refusals.{refused_if, refused_text, first_of}
+use Rattle.analyser.specs.Histories.{Reply, Says, History, next_book, book_from, call_at, reply_at}
+use Rattle.analyser.specs.Refusals.{refused_if, refused_text, first_of, refused_or}
 
 -- a change of the book shows in its texts alone
 texts_after : (o p : Option Refusal) (f : List (Option (List ℕ)) → List (Option (List ℕ))) (b c : Book) → o ≡ p → b.texts ≡ c.texts → (unless o (unsettled (f b.texts)) b).texts ≡ (unless p (unsettled (f c.texts)) c).texts
 texts_after None None f b c e same = ap f same
 texts_after (Some r) (Some s) f b c e same = same
-texts_after None (Some s) f b c e same = absurd (let z : ◌≡◌ {A = ℕ} 0 1 = cc e in omega arith)
-texts_after (Some r) None f b c e same = absurd (let z : ◌≡◌ {A = ℕ} 0 1 = cc e in omega arith)
+texts_after None (Some s) f b c e same = cc e
+texts_after (Some r) None f b c e same = cc e
 
 module _ (b c : Book) (same : b.texts ≡ c.texts) where
   load_alike : (u : ℕ) (t : List ℕ) → load_refusal b u t ≡ load_refusal c u t
@@ -43,6 +42,6 @@ books_alike b c (d ∷ calls) same = books_alike (next_book b d) (next_book c d)
 
 pub replies_alike : (b c : Book) (calls : List Call) (rs ss : List Reply) → History b calls rs → History c calls ss → b.texts ≡ c.texts → rs ≡ ss
 replies_alike b c calls rs ss one other same =
-    ext_get_or Loaded rs ss (one.answered ∙ sym other.answered)
+    ext_get_or (Ok Loaded) rs ss (one.answered ∙ sym other.answered)
     (λ i h. let k : i < length calls = omega (arith, one.answered) in
     said_alike (book_from b (take i calls)) (book_from c (take i calls)) (books_alike b c (take i calls) same) (call_at calls i) (reply_at rs i) (reply_at ss i) (one.each i k) (other.each i k))

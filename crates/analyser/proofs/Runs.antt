@@ -1,25 +1,26 @@
 -- Histories, one call after another.
-use Rattle.std.proofs.Common.{◌≡◌, ℕ, ◌+◌, ◌<◌, ◌≤◌, List, [], ◌∷◌, ◌++◌, length, take, Some, None, Option, sym, refl, ap, ◌∙◌, subst, ⊎_elim, arith}
+use Rattle.std.proofs.Common.{◌≡◌, ℕ, ◌+◌, ◌<◌, ◌≤◌, List, [], ◌∷◌, ◌++◌, length, take, Some, None, Ok, Err, Option, sym, refl, ap, ◌∙◌, subst, ⊎_elim, arith}
 use Rattle.std.proofs.lemmas.List.{take_more, take-append-le, take_at, get_or_append_left, get_or_at, length_push}
 use Rattle.std.proofs.lemmas.Bool.{cases_order}
 use Rattle.analyser.specs.declared.Call.{Call}
 use Rattle.analyser.specs.declared.Call.TheVariants.{Load, Unload}
-use Rattle.analyser.specs.declared.Reply.{Reply}
-use Rattle.analyser.specs.declared.Reply.TheVariants.{Loaded, Unloaded, Refused}
+use Rattle.analyser.specs.declared.Done.{Done}
+use Rattle.analyser.specs.declared.Done.TheVariants.{Loaded, Unloaded}
 use Rattle.analyser.specs.declared.refusal.Refusal.{Refusal}
 use Rattle.analyser.specs.Books.{Book, unless, load_refusal, unload_refusal}
-use Rattle.analyser.specs.Histories.{Says, History, next_book, book_from, refused_or, call_at, reply_at}
+use Rattle.analyser.specs.Histories.{Reply, Says, History, next_book, book_from, call_at, reply_at}
+use Rattle.analyser.specs.Refusals.{refused_or}
 
 -- where the reply is a refusal, one applied, and the book stays
-stays : (o : Option Refusal) (done : Reply) (f : Refusal) (new old : Book) → (done ≡ Refused f → ⊥) → refused_or o done ≡ Refused f → unless o new old ≡ old
-stays None done f new old answered e = absurd (answered e)
-stays (Some g) done f new old answered e = refl
+stays : (o : Option Refusal) (done : Done) (f : Refusal) (new old : Book) → refused_or o done ≡ Err f → unless o new old ≡ old
+stays None done f new old e = cc e
+stays (Some g) done f new old e = refl
 
-pub refused_keeps : (b : Book) (c : Call) (r : Reply) (f : Refusal) → Says b c r → r ≡ Refused f → next_book b c ≡ b
+pub refused_keeps : (b : Book) (c : Call) (r : Reply) (f : Refusal) → Says b c r → r ≡ Err f → next_book b c ≡ b
 refused_keeps b (Load u t) r f says refused =
-    stays (load_refusal b u t.now) Loaded f _ b (λ e. let z : ◌≡◌ {A = ℕ} 0 1 = cc e in omega arith) (sym says ∙ refused)
+    stays (load_refusal b u t.now) Loaded f _ b (sym says ∙ refused)
 refused_keeps b (Unload u) r f says refused =
-    stays (unload_refusal b u) Unloaded f _ b (λ e. let z : ◌≡◌ {A = ℕ} 0 1 = cc e in omega arith) (sym says ∙ refused)
+    stays (unload_refusal b u) Unloaded f _ b (sym says ∙ refused)
 
 pub book_more : (b : Book) (cs : List Call) (c : Call) → book_from b (cs ++ (c ∷ [])) ≡ next_book (book_from b cs) c
 book_more b [] c = refl
@@ -48,10 +49,10 @@ module _ (b : Book) (cs : List Call) (rs : List Reply) (c : Call) (r : Reply) (s
       earlier k =
           let le : i ≤ length cs = omega arith in
           let kr : i < length rs = omega (arith, so_far.answered) in
-          rw (take-append-le i cs (c ∷ []) le, get_or_append_left cs (c ∷ []) (Unload 0) i k, get_or_append_left rs (r ∷ []) Loaded i kr) (so_far.each i k)
+          rw (take-append-le i cs (c ∷ []) le, get_or_append_left cs (c ∷ []) (Unload 0) i k, get_or_append_left rs (r ∷ []) (Ok Loaded) i kr) (so_far.each i k)
 
       last : i ≡ length cs → Says (book_from b (take i (cs ++ (c ∷ [])))) (call_at (cs ++ (c ∷ [])) i) (reply_at (rs ++ (r ∷ [])) i)
-      last e = rw (take_at cs (c ∷ []) i (sym e), get_or_at cs c [] (Unload 0) i (sym e), get_or_at rs r [] Loaded i (so_far.answered ∙ sym e)) said
+      last e = rw (take_at cs (c ∷ []) i (sym e), get_or_at cs c [] (Unload 0) i (sym e), get_or_at rs r [] (Ok Loaded) i (so_far.answered ∙ sym e)) said
 
   pub history_more : History b (cs ++ (c ∷ [])) (rs ++ (r ∷ []))
   history_more = history_of b (cs ++ (c ∷ [])) (rs ++ (r ∷ [])) (length_push rs r ∙ ap (λ n. n + 1) so_far.answered ∙ sym (length_push cs c)) each_more

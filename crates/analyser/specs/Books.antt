@@ -1,5 +1,5 @@
 -- The book: which texts stand under the unit numbers 0 to 7, and whether it is settled. It is fed the calls' arguments and no reply.
-use Rattle.std.specs.Prelude.{ℕ, Bool, false, cond, not, List, [], ◌∷◌, take, replicate, is_some, Some, None, Ok, Err, Option, Result, nat_lt, slice_index_or, slice_set}
+use Rattle.std.specs.Prelude.{ℕ, Bool, false, not, List, [], ◌∷◌, replicate, is_some, Some, None, Option, nat_lt, slice_index_or, slice_set}
 use Rattle.declarations.specs.Verdicts.{unit_verdict}
 use Rattle.analyser.specs.declared.refusal.Refusal.{Refusal}
 use Rattle.analyser.specs.declared.refusal.Refusal.TheVariants.{NoSuchUnit, UnitStands, NothingStands}
@@ -31,16 +31,8 @@ abbrev pub unless : Option Refusal → Book → Book → Book
 unless None new old = new
 unless (Some _) new old = old
 
-abbrev pub done_or : Option Refusal → Result (Unit {0}) Refusal
-done_or None = Ok tt
-done_or (Some f) = Err f
-
 abbrev pub load_book : Book → ℕ → List ℕ → Book
 load_book b u t = unless (load_refusal b u t) (unsettled (slice_set b.texts u (Some t))) b
 
 abbrev pub unload_book : Book → ℕ → Book
 unload_book b u = unless (unload_refusal b u) (unsettled (slice_set b.texts u None)) b
-
--- the text in a place of the analyser
-abbrev pub text : Bool → ℕ → List ℕ → Option (List ℕ)
-text standing n bytes = cond standing (Some (take n bytes)) None

@@ -36,3 +36,8 @@ abbrev pub first_of : List (Option Refusal) → Option Refusal
 first_of [] = None
 first_of (None ∷ others) = first_of others
 first_of (Some f ∷ others) = Some f
+
+-- refused for the reason that applies, or else answered
+abbrev pub refused_or : {A : Type 0} → Option Refusal → A → Result A Refusal
+refused_or None answer = Ok answer
+refused_or (Some f) answer = Err f

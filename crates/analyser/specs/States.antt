@@ -1,11 +1,14 @@
 -- The book that an analyser's state stands for.
-use Rattle.std.specs.Prelude.{ℕ, List, map, Option}
-use Rattle.analyser.specs.declared.slot.Slot.{Slot}
+use Rattle.std.specs.Prelude.{ℕ, List, map, Some, None, Option}
+use Rattle.grammar.specs.declared.unit_text.UnitText.{UnitText}
+use Rattle.grammar.specs.Texts.{text_in}
 use Rattle.analyser.specs.declared.analyser.Analyser.{Analyser}
-use Rattle.analyser.specs.Books.{Book, text}
+use Rattle.analyser.specs.Books.{Book}
 
-abbrev pub slot_text : Slot → Option (List ℕ)
-slot_text s = text s.standing s.len s.bytes
+-- the text that stands in a place, if one does
+abbrev pub standing_text : Option UnitText → Option (List ℕ)
+standing_text None = None
+standing_text (Some t) = Some (text_in t)
 
 abbrev pub book_of : Analyser → Book
-book_of a = record { texts = map slot_text a.slots; settled = a.settled }
+book_of a = record { texts = map standing_text a.texts; settled = a.settled }

@@ -1,18 +1,19 @@
 // The analyser's state and calls.
 ghost use Rattle.std.specs.Prelude.{◌≡◌};
-ghost use Rattle.analyser.specs.Books.{new_book, load_refusal, unload_refusal, load_book, unload_book, done_or};
+ghost use Rattle.analyser.specs.Refusals.{refused_or};
+ghost use Rattle.analyser.specs.Books.{new_book, load_refusal, unload_refusal, load_book, unload_book};
 ghost use Rattle.analyser.specs.States.{book_of};
 
 use crate::Refusal;
-use crate::slot::Slot;
 use declarations::check::{DeclarationMemory, check_unit};
+use grammar::unit_text::UnitText;
 
-const LAST_UNIT: usize = 7;
+const UNITS: usize = 8;
 
 // For unit numbers 0 to 7 the standing text or none. All memory is taken at making: no call allocates.
 #[derive(Drop)]
 pub struct Analyser {
-    slots: [Slot; 8],
+    texts: [Option<UnitText>; UNITS],
     settled: bool,
     memory: DeclarationMemory,
 }
@@ -22,43 +23,41 @@ impl Analyser {
         ensures { book_of result ≡ new_book }
     {
         Analyser {
-            slots: [Slot::free(); 8],
+            texts: [None; UNITS],
             settled: false,
             memory: DeclarationMemory::new(),
         }
     }
 
     // Enters a text under a unit number that is free.
+    #[tactic(auto, unfolding(crate::specs::Books::load_refusal))]
     pub fn load(&mut self, unit: u32, text: &[u8]) -> Result<(), Refusal>
-        ensures replies { result ≡ done_or (load_refusal (book_of self.old) unit text.now) }
+        ensures replies { result ≡ refused_or (load_refusal (book_of self.old) unit text.now) tt }
         ensures after { book_of self.new ≡ load_book (book_of self.old) unit text.now }
     {
-        let u = unit as usize;
-        if u > LAST_UNIT {
-            return Err(Refusal::NoSuchUnit);
-        }
-        if self.slots[u].is_standing() {
+        let place = unit as usize;
+        let standing = self.texts.get(place).ok_or(Refusal::NoSuchUnit)?;
+        if standing.is_some() {
             return Err(Refusal::UnitStands);
         }
         check_unit(text, &mut self.memory)?;
-        self.slots[u].put(text);
+        self.texts[place] = Some(UnitText::try_from(text)?);
         self.settled = false;
         Ok(())
     }
 
     // Strikes out the text under a unit number.
+    #[tactic(auto, unfolding(crate::specs::Books::unload_refusal))]
     pub fn unload(&mut self, unit: u32) -> Result<(), Refusal>
-        ensures replies { result ≡ done_or (unload_refusal (book_of self.old) unit) }
+        ensures replies { result ≡ refused_or (unload_refusal (book_of self.old) unit) tt }
         ensures after { book_of self.new ≡ unload_book (book_of self.old) unit }
     {
-        let u = unit as usize;
-        if u > LAST_UNIT {
-            return Err(Refusal::NoSuchUnit);
-        }
-        if !self.slots[u].is_standing() {
+        let place = unit as usize;
+        let standing = self.texts.get(place).ok_or(Refusal::NoSuchUnit)?;
+        if standing.is_none() {
             return Err(Refusal::NothingStands);
         }
-        self.slots[u].strike();
+        self.texts[place] = None;
         self.settled = false;
         Ok(())
     }

@@ -4,7 +4,7 @@ ghost use Rattle.analyser.specs.Books.{new_book};
 ghost use Rattle.analyser.specs.Histories.{next_book, book_from, Says, History, Audited};
 ghost use Rattle.analyser.specs.States.{book_of};
 
-use crate::{Analyser, Call, Reply};
+use crate::{Analyser, Call, Done, Reply};
 use std::alloc::{AllocError, Global};
 
 // What two histories were replied, and then the further questions asked of both.
@@ -22,14 +22,8 @@ fn make(analyser: &mut Analyser, call: &Call) -> Reply
     ensures after { book_of analyser.new ≡ next_book (book_of analyser.old) call.now }
 {
     match *call {
-        Call::Load { unit, text } => match analyser.load(unit, text) {
-            Ok(()) => Reply::Loaded,
-            Err(refusal) => Reply::Refused(refusal),
-        },
-        Call::Unload { unit } => match analyser.unload(unit) {
-            Ok(()) => Reply::Unloaded,
-            Err(refusal) => Reply::Refused(refusal),
-        },
+        Call::Load { unit, text } => analyser.load(unit, text).map(|()| Done::Loaded),
+        Call::Unload { unit } => analyser.unload(unit).map(|()| Done::Unloaded),
     }
 }
 

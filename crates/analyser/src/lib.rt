@@ -4,7 +4,6 @@
 mod analyser;
 mod history;
 mod refusal;
-mod slot;
 #[cfg(test)]
 mod tests;
 
@@ -19,10 +18,12 @@ pub enum Call<'a> {
     Load { unit: u32, text: &'a [u8] },
 }
 
-// What a call is answered.
-#[derive(Clone, Copy, Drop)]
-pub enum Reply {
+// What a call that is not refused has done.
+#[derive(Clone, Copy, PartialEq, Eq, Debug, Drop)]
+pub enum Done {
     Loaded,
     Unloaded,
-    Refused(Refusal),
 }
+
+// What a call is answered.
+pub type Reply = Result<Done, Refusal>;

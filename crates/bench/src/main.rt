@@ -17,28 +17,23 @@ use std::time::Instant;
 use std::{env, io};
 use worklist::worklist_over;
 
-// What a run of one engine comes to, and in how many microseconds.
-#[derive(Clone, Copy)]
-struct Run {
-    outcome: Outcome,
-    micros: u128,
-}
-
-fn timed<E: Engine>(rt: &HostRuntime, engine: &mut E, case: &Case) -> io::Result<Run> {
+// Runs an engine on a list and shows what comes of it, with the time if that is wanted.
+fn measure<E: Engine + Drop>(
+    rt: &HostRuntime,
+    name: &str,
+    mut engine: E,
+    case: &Case,
+    times: bool,
+) -> io::Result<Outcome> {
     let start = Instant::now(rt)?;
-    let outcome = run_list(engine, &case.blocks, &case.words);
+    let outcome = run_list(&mut engine, &case.blocks, &case.words);
     let micros = start.elapsed(rt)?.as_micros();
-    Ok(Run { outcome, micros })
-}
-
-fn show(rt: &HostRuntime, engine: &str, run: Run, times: bool) -> io::Result<()> {
-    let outcome = run.outcome;
     if times {
-        let micros = run.micros;
-        println!(rt; "  {engine}: {outcome} ({micros} us)")
+        println!(rt; "  {name}: {outcome} ({micros} us)")?;
     } else {
-        println!(rt; "  {engine}: {outcome}")
+        println!(rt; "  {name}: {outcome}")?;
     }
+    Ok(outcome)
 }
 
 fn bits(rt: &HostRuntime) -> io::Result<BitRows> {
@@ -54,15 +49,33 @@ fn chained(rt: &HostRuntime, cells: usize) -> io::Result<Chains> {
 // Runs a list over the four engines, chains with so many cells.
 fn compare(rt: &HostRuntime, name: &str, case: &Case, cells: usize, times: bool) -> io::Result<()> {
     println!(rt; "{name}")?;
-    let one = timed(rt, &mut worklist_over(bits(rt)?), case)?;
-    show(rt, "worklist/bits", one, times)?;
-    let two = timed(rt, &mut difference_over(bits(rt)?), case)?;
-    show(rt, "difference/bits", two, times)?;
-    let three = timed(rt, &mut worklist_over(chained(rt, cells)?), case)?;
-    show(rt, "worklist/chains", three, times)?;
-    let four = timed(rt, &mut difference_over(chained(rt, cells)?), case)?;
-    show(rt, "difference/chains", four, times)?;
-    if one.outcome == two.outcome && three.outcome == four.outcome {
+    let in_bits = [
+        measure(rt, "worklist/bits", worklist_over(bits(rt)?), case, times)?,
+        measure(
+            rt,
+            "difference/bits",
+            difference_over(bits(rt)?),
+            case,
+            times,
+        )?,
+    ];
+    let in_chains = [
+        measure(
+            rt,
+            "worklist/chains",
+            worklist_over(chained(rt, cells)?),
+            case,
+            times,
+        )?,
+        measure(
+            rt,
+            "difference/chains",
+            difference_over(chained(rt, cells)?),
+            case,
+            times,
+        )?,
+    ];
+    if in_bits[0] == in_bits[1] && in_chains[0] == in_chains[1] {
         println!(rt; "  both solvers agree over each store")
     } else {
         println!(rt; "  THE SOLVERS DIFFER")
@@ -71,30 +84,15 @@ fn compare(rt: &HostRuntime, name: &str, case: &Case, cells: usize, times: bool)
 
 // Runs a list under each layer over the plain worklist, and over a store without room: there the layer's own work is all.
 fn layered(rt: &HostRuntime, case: &Case) -> io::Result<()> {
-    let one = timed(
-        rt,
-        &mut Merging::new(Hvn::new(), worklist_over(bits(rt)?)),
-        case,
-    )?;
-    show(rt, "hvn+worklist/bits", one, true)?;
-    let two = timed(
-        rt,
-        &mut Merging::new(Hu::new(), worklist_over(bits(rt)?)),
-        case,
-    )?;
-    show(rt, "hu+worklist/bits", two, true)?;
-    let three = timed(
-        rt,
-        &mut Merging::new(Hvn::new(), worklist_over(chained(rt, 0)?)),
-        case,
-    )?;
-    show(rt, "hvn by itself, no room below", three, true)?;
-    let four = timed(
-        rt,
-        &mut Merging::new(Hu::new(), worklist_over(chained(rt, 0)?)),
-        case,
-    )?;
-    show(rt, "hu by itself, no room below", four, true)
+    let hvn = Merging::new(Hvn::new(), worklist_over(bits(rt)?));
+    measure(rt, "hvn+worklist/bits", hvn, case, true)?;
+    let hu = Merging::new(Hu::new(), worklist_over(bits(rt)?));
+    measure(rt, "hu+worklist/bits", hu, case, true)?;
+    let hvn = Merging::new(Hvn::new(), worklist_over(chained(rt, 0)?));
+    measure(rt, "hvn by itself, no room below", hvn, case, true)?;
+    let hu = Merging::new(Hu::new(), worklist_over(chained(rt, 0)?));
+    measure(rt, "hu by itself, no room below", hu, case, true)?;
+    Ok(())
 }
 
 fn known_lists(rt: &HostRuntime, times: bool) -> io::Result<()> {
@@ -137,12 +135,7 @@ fn lists_at_the_limits(rt: &HostRuntime) -> io::Result<()> {
 }
 
 fn main(rt: HostRuntime) -> io::Result<()> {
-    let mut times = false;
-    for arg in env::args(&rt)? {
-        if arg.as_str() == "--time" {
-            times = true;
-        }
-    }
+    let times = env::args(&rt)?.any(|arg| arg.as_str() == "--time");
     known_lists(&rt, times)?;
     if times {
         lists_at_the_limits(&rt)?;

@@ -1,14 +1,30 @@
 // What an engine makes of a list.
-use engine::{Engine, EngineFault};
+use engine::{Engine, EngineFault, Overflow};
 use std::fmt;
 
 #[derive(Clone, Copy, PartialEq, Eq)]
 pub enum Outcome {
     // how many pairs, and a digest of all rows
     Settled { pairs: u32, digest: u32 },
+    // which pair of the smallest solution found no room depends on the solver
     NoRoom { position: u16, depth: u8 },
-    // any other refusal, by its number
-    Refused(u8),
+    // any other refusal
+    Refused(EngineFault),
+}
+
+impl From<EngineFault> for Outcome {
+    fn from(fault: EngineFault) -> Outcome {
+        match fault {
+            EngineFault::NoRoom(
+                Overflow {
+                    position,
+                    depth,
+                    ..
+                },
+            ) => Outcome::NoRoom { position, depth },
+            _ => Outcome::Refused(fault),
+        }
+    }
 }
 
 impl fmt::Display for Outcome {
@@ -19,7 +35,7 @@ impl fmt::Display for Outcome {
                 f,
                 "no room at position {position}, depth {depth}"
             ),
-            Outcome::Refused(number) => write!(f, "refused {number}"),
+            Outcome::Refused(fault) => write!(f, "refused {}", fault.number()),
         }
     }
 }
@@ -61,12 +77,5 @@ fn solve<E: Engine>(engine: &mut E, blocks: &[u8], words: &[u32]) -> Result<Outc
 }
 
 pub fn run_list<E: Engine>(engine: &mut E, blocks: &[u8], words: &[u32]) -> Outcome {
-    match solve(engine, blocks, words) {
-        Ok(outcome) => outcome,
-        Err(EngineFault::NoRoom(o)) => Outcome::NoRoom {
-            position: o.position,
-            depth: o.depth,
-        },
-        Err(fault) => Outcome::Refused(fault.number()),
-    }
+    solve(engine, blocks, words).unwrap_or_else(Outcome::from)
 }

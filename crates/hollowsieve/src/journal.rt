@@ -1,5 +1,5 @@
 // The lines of a journal: one call a line, words apart by blanks; empty lines and lines that begin with # are passed over.
-use std::fmt;
+use thiserror::Error;
 
 #[derive(Clone, Copy)]
 pub enum Entry<'a> {
@@ -8,45 +8,22 @@ pub enum Entry<'a> {
 }
 
 // What is wrong with a line.
-#[derive(Clone, Copy)]
+#[derive(Clone, Copy, Debug, Error)]
 pub enum BadLine<'a> {
+    #[error("'{0}' is no call; the calls are load U FILE and unload U")]
     UnknownCall(&'a str),
+    #[error("the call is written {0}")]
     Form(&'static str),
+    #[error("'{0}' is no unit number")]
     NoUnit(&'a str),
 }
 
-impl fmt::Display for BadLine<'_> {
-    fn fmt<W: fmt::Write>(&self, f: &mut fmt::Formatter<W>) -> fmt::Result {
-        match *self {
-            BadLine::UnknownCall(word) => write!(
-                f,
-                "'{word}' is no call; the calls are load U FILE and unload U"
-            ),
-            BadLine::Form(form) => write!(f, "the call is written {form}"),
-            BadLine::NoUnit(word) => write!(f, "'{word}' is no unit number"),
-        }
-    }
-}
-
-// A number in decimal digits.
-pub fn number(word: &str) -> Option<u32> {
-    if word.is_empty() {
-        return None;
-    }
-    let mut value = 0u32;
-    for b in word.bytes() {
-        if b < b'0' || b > b'9' {
-            return None;
-        }
-        value = value.checked_mul(10)?.checked_add(u32::from(b - b'0'))?;
-    }
-    Some(value)
-}
-
+// A unit number in decimal digits; `parse` alone would take a sign too.
 fn unit<'a>(word: &'a str) -> Result<u32, BadLine<'a>> {
-    match number(word) {
-        Some(n) => Ok(n),
-        None => Err(BadLine::NoUnit(word)),
+    if word.bytes().all(|b| b.is_ascii_digit()) {
+        word.parse().map_err(|_| BadLine::NoUnit(word))
+    } else {
+        Err(BadLine::NoUnit(word))
     }
 }
 
@@ -56,26 +33,18 @@ pub fn read_line<'a>(line: &'a str) -> Result<Option<Entry<'a>>, BadLine<'a>> {
     let Some(call) = words.next() else {
         return Ok(None);
     };
-    if call.starts_with('#') {
-        return Ok(None);
-    }
-    let first = words.next();
-    let second = words.next();
-    let third = words.next();
-    if call == "load" {
-        let (Some(u), Some(file), None) = (first, second, third) else {
-            return Err(BadLine::Form("load U FILE"));
-        };
-        return Ok(Some(Entry::Load {
-            unit: unit(u)?,
+    let arguments = [words.next(), words.next(), words.next()];
+    match (call, arguments) {
+        ("load", [Some(number), Some(file), None]) => Ok(Some(Entry::Load {
+            unit: unit(number)?,
             file,
-        }));
+        })),
+        ("load", _) => Err(BadLine::Form("load U FILE")),
+        ("unload", [Some(number), None, _]) => Ok(Some(Entry::Unload {
+            unit: unit(number)?,
+        })),
+        ("unload", _) => Err(BadLine::Form("unload U")),
+        _ if call.starts_with('#') => Ok(None),
+        _ => Err(BadLine::UnknownCall(call)),
     }
-    if call == "unload" {
-        let (Some(u), None) = (first, second) else {
-            return Err(BadLine::Form("unload U"));
-        };
-        return Ok(Some(Entry::Unload { unit: unit(u)? }));
-    }
-    Err(BadLine::UnknownCall(call))
 }

@@ -7,125 +7,91 @@ mod options;
 mod report;
 mod source;
 
-use analyser::{AuditReport, Call, Reply, audit, replay};
+use analyser::{AuditReport, Call, Done, Reply, audit, replay};
 use failure::Failure;
 use journal::Entry;
 use options::Command;
+use report::CallLine;
 use source::{Line, Source};
+use std::collections::BTreeMap;
 use std::process::ExitCode;
 
-// The calls of the journal, with their texts.
-fn calls_of<'a>(
-    rt: &HostRuntime,
-    lines: &[Line<'_>],
-    texts: &'a [Vec<u8>],
-) -> Result<Vec<Call<'a>>, Failure> {
-    let mut calls = Vec::new(rt.alloc());
-    for line in lines {
-        match line.entry {
-            Entry::Load { unit, file: _ } => {
-                if let Some(text) = texts.get(line.file) {
-                    calls.push(Call::Load {
-                        unit,
-                        text: text.as_slice(),
-                    })?;
-                }
-            }
-            Entry::Unload { unit } => calls.push(Call::Unload { unit })?,
+// The call of an entry, with its text.
+fn call_of<'a>(entry: Entry<'_>, texts: &'a BTreeMap<String, Vec<u8>>) -> Option<Call<'a>> {
+    match entry {
+        Entry::Load { unit, file } => {
+            let text = texts.get(file)?.as_slice();
+            Some(Call::Load { unit, text })
         }
+        Entry::Unload { unit } => Some(Call::Unload { unit }),
     }
-    Ok(calls)
 }
 
-// For each unit number the call whose text stands after all calls, if one does.
-fn standing(calls: &[Call<'_>], replies: &[Reply]) -> [Option<usize>; 8] {
-    let mut last = [None; 8];
-    for (i, (call, reply)) in calls.iter().zip(replies.iter()).enumerate() {
+// The loads whose texts stand after all calls, by rising unit number.
+fn standing<'a>(
+    rt: &HostRuntime,
+    calls: &[Call<'a>],
+    replies: &[Reply],
+) -> Result<Vec<Call<'a>>, Failure> {
+    let mut loads = BTreeMap::new(rt.alloc());
+    for (call, reply) in calls.iter().zip(replies.iter()) {
         match (call, reply) {
-            (Call::Load { unit, text: _ }, Reply::Loaded) => {
-                if *unit < 8 {
-                    last[*unit as usize] = Some(i);
-                }
+            (Call::Load { unit, text: _ }, Ok(Done::Loaded)) => {
+                loads.insert(*unit, *call)?;
             }
-            (Call::Unload { unit }, Reply::Unloaded) => {
-                if *unit < 8 {
-                    last[*unit as usize] = None;
-                }
+            (Call::Unload { unit }, Ok(Done::Unloaded)) => {
+                loads.remove(unit);
             }
             _ => {}
         }
     }
-    last
-}
-
-// The same texts, loaded by rising unit number.
-fn fresh<'a>(
-    rt: &HostRuntime,
-    calls: &[Call<'a>],
-    last: &[Option<usize>],
-) -> Result<Vec<Call<'a>>, Failure> {
-    let mut loads = Vec::new(rt.alloc());
-    for place in last {
-        if let Some(i) = *place {
-            if let Some(call) = calls.get(i) {
-                loads.push(*call)?;
-            }
-        }
-    }
-    Ok(loads)
-}
-
-// Strikes out whatever stands: the replies tell what that was.
-fn unload_all<'a>(rt: &HostRuntime) -> Result<Vec<Call<'a>>, Failure> {
-    let mut unloads = Vec::new(rt.alloc());
-    for unit in 0..8u32 {
-        unloads.push(Call::Unload { unit })?;
-    }
-    Ok(unloads)
+    Ok(loads.into_values().collect(rt.alloc())?)
 }
 
 fn show_calls(rt: &HostRuntime, lines: &[Line<'_>], replies: &[Reply]) -> Result<(), Failure> {
     for (line, reply) in lines.iter().zip(replies.iter()) {
-        rt.println(report::call_line(rt.alloc(), line, *reply)?)?;
+        let shown = CallLine {
+            call: line.text,
+            reply: *reply,
+        };
+        println!(rt; "{shown}")?;
     }
     let calls = replies.len();
-    let refused = report::refusals(replies);
-    let answered = calls.saturating_sub(refused);
+    let answered = replies.iter().filter(|reply| reply.is_ok()).count();
+    let answered = replies.iter().filter(|reply| reply.is_ok()).count();
+    let refused = replies.iter().filter(|reply| reply.is_err()).count();
     println!(rt; "")?;
     println!(rt; "{calls} calls, {answered} answered, {refused} refused")?;
     Ok(())
 }
 
 fn show_audit(rt: &HostRuntime, loads: usize, report: &AuditReport) -> Result<(), Failure> {
-    let differ = report::differing(rt.alloc(), &report.first_further, &report.second_further)?;
+    let differ = report::differing(&report.first_further, &report.second_further);
     let asked = report.first_further.len();
     println!(rt;
         "audit: {loads} units loaded afresh, {asked} calls made of both, {differ} differ"
     )?;
     if differ > 0 {
-        let text = String::from_str(rt.alloc(), "the fresh analyser does not agree")?;
-        return Err(Failure::Message(text));
+        return Err(Failure::Disagreement);
     }
     Ok(())
 }
 
-fn path_of(journal: &Option<String>) -> Option<&str> {
-    match journal {
-        Some(path) => Some(path.as_str()),
-        None => None,
-    }
-}
-
-fn audit_journal(rt: &HostRuntime, journal: &Option<String>) -> Result<(), Failure> {
+fn audit_journal(rt: &HostRuntime, journal: Option<&str>) -> Result<(), Failure> {
     let heap = rt.alloc();
-    let source = Source::read(rt, path_of(journal))?;
-    let mut lines = source.lines(rt)?;
-    let texts = source.unit_files(rt, &mut lines)?;
-    let calls = calls_of(rt, &lines, &texts)?;
+    let source = Source::read(rt, journal)?;
+    let lines = source.lines(rt)?;
+    let texts = source.unit_texts(rt, &lines)?;
+    let calls: Vec<Call<'_>> = lines
+        .iter()
+        .filter_map(|line| call_of(line.entry, &texts))
+        .collect(heap)?;
     let replies = replay(heap, &calls)?;
     show_calls(rt, &lines, &replies)?;
-    let loads = fresh(rt, &calls, &standing(&calls, &replies))?;
-    let report = audit(heap, &calls, &loads, &unload_all(rt)?)?;
+    let loads = standing(rt, &calls, &replies)?;
+    // Both strike out whatever stands: the replies tell what that was.
+    let unloads: Vec<Call<'_>> = (0..8).map(|unit| Call::Unload { unit }).collect(heap)?;
+    let report = audit(heap, &calls, &loads, &unloads)?;
     show_audit(rt, loads.len(), &report)
 }
 
@@ -133,7 +99,7 @@ fn run(rt: &HostRuntime) -> Result<(), Failure> {
     match options::read_args(rt)? {
         Command::Help => rt.println(options::USAGE)?,
         Command::Version => rt.println(options::VERSION)?,
-        Command::Audit(journal) => audit_journal(rt, &journal)?,
+        Command::Audit(journal) => audit_journal(rt, journal.as_deref())?,
     }
     Ok(())
 }

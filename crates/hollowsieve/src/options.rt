@@ -26,36 +26,18 @@ options:
 
 pub const VERSION: &str = "hollowsieve 0.1.0 (rattle-kit-13f logic dac8208d650f15bf)";
 
-fn refused(rt: &HostRuntime, arg: &str, what: &str) -> Failure {
-    match format!(in rt.alloc(); "'{arg}' {what}; see --help") {
-        Ok(text) => Failure::Message(text),
-        Err(_) => Failure::Memory,
-    }
-}
-
 // What the command line asks for.
 pub fn read_args(rt: &HostRuntime) -> Result<Command, Failure> {
-    let Ok(args) = env::args(rt) else {
-        return Err(Failure::Message(String::from_str(
-            rt.alloc(),
-            "an argument is not UTF-8 text",
-        )?));
-    };
+    let args = env::args(rt).map_err(|_| Failure::ArgumentNotText)?;
     let mut journal = None;
     for arg in args.skip(1) {
-        if arg.as_str() == "--help" {
-            return Ok(Command::Help);
+        match arg.as_str() {
+            "--help" => return Ok(Command::Help),
+            "--version" => return Ok(Command::Version),
+            word if word.starts_with('-') => return Err(Failure::NoOption(arg)),
+            _ if journal.is_some() => return Err(Failure::SecondJournal(arg)),
+            _ => journal = Some(arg),
         }
-        if arg.as_str() == "--version" {
-            return Ok(Command::Version);
-        }
-        if arg.as_str().starts_with('-') {
-            return Err(refused(rt, arg.as_str(), "is no option"));
-        }
-        if journal.is_some() {
-            return Err(refused(rt, arg.as_str(), "is a second journal"));
-        }
-        journal = Some(arg);
     }
     Ok(Command::Audit(journal))
 }

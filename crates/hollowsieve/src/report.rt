@@ -1,9 +1,8 @@
 // The lines that the program prints. Others parse them: their form is fixed.
-use crate::source::Line;
-use analyser::{Refusal, Reply};
+use analyser::{Done, Refusal, Reply};
 use grammar::unit::UnitFault;
 use lexemes::location::Location;
-use std::alloc::{AllocError, Global};
+use std::fmt;
 
 // What a refusal means, in words.
 fn meaning(refusal: Refusal) -> &'static str {
@@ -25,57 +24,50 @@ fn location(refusal: Refusal) -> Option<Location> {
     }
 }
 
-fn refusal_text(heap: Global, refusal: Refusal) -> Result<String, AllocError> {
-    let number = refusal.number();
-    let words = meaning(refusal);
-    match location(refusal) {
-        Some(Location { offset, line }) => {
-            format!(in heap; "refused {number} ({words}) at offset {offset}, line {line}")
+// A call as written, with single blanks, and its reply.
+#[derive(Clone, Copy)]
+pub struct CallLine<'a> {
+    pub call: &'a str,
+    pub reply: Reply,
+}
+
+impl fmt::Display for CallLine<'_> {
+    fn fmt<W: fmt::Write>(&self, f: &mut fmt::Formatter<W>) -> fmt::Result {
+        for (i, word) in self.call.split_ascii_whitespace().enumerate() {
+            if i > 0 {
+                f.write_char(' ')?;
+            }
+            f.write_str(word)?;
         }
-        None => format!(in heap; "refused {number} ({words})"),
+        match self.reply {
+            Ok(Done::Loaded) => f.write_str(": loaded"),
+            Ok(Done::Unloaded) => f.write_str(": unloaded"),
+            Err(refusal) => {
+                let number = refusal.number();
+                let words = meaning(refusal);
+                write!(f, ": refused {number} ({words})")?;
+                match location(refusal) {
+                    Some(Location { offset, line }) => write!(
+                        f,
+                        " at offset {offset}, line {line}"
+                    ),
+                    None => Ok(()),
+                }
+            }
+        }
     }
 }
 
-fn reply_text(heap: Global, reply: Reply) -> Result<String, AllocError> {
-    match reply {
-        Reply::Loaded => String::from_str(heap, "loaded"),
-        Reply::Unloaded => String::from_str(heap, "unloaded"),
-        Reply::Refused(refusal) => refusal_text(heap, refusal),
-    }
+// All that a reply tells: of a refusal its number and place.
+fn told(reply: Reply) -> Result<Done, (u32, Option<Location>)> {
+    reply.map_err(|refusal| (refusal.number(), location(refusal)))
 }
 
-// The call as written, with single blanks, and its reply.
-pub fn call_line(heap: Global, line: &Line<'_>, reply: Reply) -> Result<String, AllocError> {
-    let mut out = String::new(heap);
-    for word in line.text.split_ascii_whitespace() {
-        if !out.is_empty() {
-            out.push(' ')?;
-        }
-        out.push_str(word)?;
-    }
-    out.push_str(": ")?;
-    out.push_str(reply_text(heap, reply)?.as_str())?;
-    Ok(out)
-}
-
-// How many calls were refused.
-pub fn refusals(replies: &[Reply]) -> usize {
-    let mut count = 0usize;
-    for reply in replies {
-        if let Reply::Refused(_) = reply {
-            count = count.saturating_add(1);
-        }
-    }
-    count
-}
-
-// How many replies differ, place by place: a reply's text has all that it tells.
-pub fn differing(heap: Global, first: &[Reply], second: &[Reply]) -> Result<usize, AllocError> {
-    let mut count = 0usize;
-    for (a, b) in first.iter().zip(second.iter()) {
-        if reply_text(heap, *a)? != reply_text(heap, *b)? {
-            count = count.saturating_add(1);
-        }
-    }
-    Ok(count)
+// How many replies differ, place by place.
+pub fn differing(first: &[Reply], second: &[Reply]) -> usize {
+    first
+        .iter()
+        .zip(second.iter())
+        .filter(|(a, b)| told(**a) != told(**b))
+        .count()
 }

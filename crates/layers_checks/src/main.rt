@@ -9,19 +9,34 @@ use hu::Hu;
 use hvn::Hvn;
 use layers::{Merge, Merging};
 use rows::StoreFault;
-use std::alloc::Global;
+use std::alloc::{AllocError, Global};
 use std::io;
 use worklist::worklist_over;
 
-const UNUSED: Cell = Cell { object: 0, link: 0 };
+// A list, and what it shows.
+#[derive(Clone, Copy)]
+struct Case<'a> {
+    name: &'a str,
+    blocks: &'a [u8],
+    words: &'a [u32],
+}
+
+fn bits(heap: Global) -> Result<BitRows, AllocError> {
+    Ok(BitRows::new(vec![in heap; 0; 2048]?))
+}
+
+fn chained(heap: Global, cells: usize) -> Result<Chains, AllocError> {
+    let unused = Cell { object: 0, link: 0 };
+    Ok(Chains::new(vec![in heap; unused; cells]?))
+}
 
 // Clears the engine, gives it a list and settles it.
-fn settle_list<E: Engine>(engine: &mut E, blocks: &[u8], words: &[u32]) -> Result<(), EngineFault> {
+fn settle_list<E: Engine>(engine: &mut E, case: Case<'_>) -> Result<(), EngineFault> {
     engine.clear();
-    for n in blocks {
+    for n in case.blocks {
         engine.block(*n)?;
     }
-    for word in words {
+    for word in case.words {
         engine.add(*word)?;
     }
     engine.settle()
@@ -35,7 +50,9 @@ fn pairs_of<E: Engine>(engine: &mut E) -> (u32, u32) {
         for o in 0..256 {
             if let Ok(true) = engine.holds(v, o) {
                 count = count.wrapping_add(1);
-                sum = sum.wrapping_mul(31).wrapping_add(v as u32 * 256 + o as u32);
+                sum = sum
+                    .wrapping_mul(31)
+                    .wrapping_add(u32::from(v) * 256 + u32::from(o));
             }
         }
     }
@@ -63,15 +80,9 @@ fn show_fault(rt: &impl Print, fault: EngineFault) -> io::Result<()> {
     }
 }
 
-fn show<E: Engine>(
-    rt: &impl Print,
-    pile: &str,
-    engine: &mut E,
-    blocks: &[u8],
-    words: &[u32],
-) -> io::Result<()> {
+fn show<E: Engine>(rt: &impl Print, pile: &str, engine: &mut E, case: Case<'_>) -> io::Result<()> {
     print!(rt; "  {pile}: ")?;
-    match settle_list(engine, blocks, words) {
+    match settle_list(engine, case) {
         Ok(()) => {
             let (count, sum) = pairs_of(engine);
             println!(rt; "{count} pairs, sum {sum}")
@@ -83,10 +94,8 @@ fn show<E: Engine>(
 // Which variables a layer has replaced, and by which.
 fn show_replaced<M: Merge, E: Engine>(rt: &impl Print, engine: &Merging<M, E>) -> io::Result<()> {
     for v in 0..256 {
-        if let Some(r) = engine.representative(v) {
-            if r != v {
-                print!(rt; ", {v} by {r}")?;
-            }
+        if let Some(r) = engine.representative(v).filter(|r| *r != v) {
+            print!(rt; ", {v} by {r}")?;
         }
     }
     println!(rt; "")
@@ -109,282 +118,159 @@ fn show_layer<M: Merge, E: Engine>(
     rt: &impl Print,
     pile: &str,
     engine: &mut Merging<M, E>,
-    blocks: &[u8],
-    words: &[u32],
+    case: Case<'_>,
 ) -> io::Result<()> {
-    show(rt, pile, engine, blocks, words)?;
+    show(rt, pile, engine, case)?;
     let replaced = engine.replaced();
     print!(rt; "    {replaced} replaced")?;
     show_replaced(rt, engine)?;
     show_handed(rt, engine.handed())
 }
 
-fn under_hvn<E: Engine + Drop>(
+// A pile that is made for this alone. Engines are large, and so are the frames that hold them.
+fn show_pile<M: Merge + Drop, E: Engine + Drop, F: Fn() -> io::Result<Merging<M, E>>>(
     rt: &impl Print,
-    below: E,
-    blocks: &[u8],
-    words: &[u32],
-) -> io::Result<()> {
-    show_layer(
-        rt,
-        "hvn",
-        &mut Merging::new(Hvn::new(), below),
-        blocks,
-        words,
-    )
+    pile: &str,
+    make: F,
+    case: Case<'_>,
+) -> io::Result<()>
+    requires { F.IsAlwaysCallable make }
+{
+    show_layer(rt, pile, &mut make()?, case)
 }
 
-fn under_hu<E: Engine + Drop>(
-    rt: &impl Print,
-    below: E,
-    blocks: &[u8],
-    words: &[u32],
-) -> io::Result<()> {
-    show_layer(rt, "hu", &mut Merging::new(Hu::new(), below), blocks, words)
-}
-
-fn under_hu_hvn<E: Engine + Drop>(
-    rt: &impl Print,
-    below: E,
-    blocks: &[u8],
-    words: &[u32],
-) -> io::Result<()> {
-    show_layer(
-        rt,
-        "hu+hvn",
-        &mut Merging::new(Hu::new(), Merging::new(Hvn::new(), below)),
-        blocks,
-        words,
-    )
-}
-
-fn under_hvn_hu<E: Engine + Drop>(
-    rt: &impl Print,
-    below: E,
-    blocks: &[u8],
-    words: &[u32],
-) -> io::Result<()> {
-    show_layer(
-        rt,
-        "hvn+hu",
-        &mut Merging::new(Hvn::new(), Merging::new(Hu::new(), below)),
-        blocks,
-        words,
-    )
-}
-
-// Five engines of a kind: one plain, and the others under one layer or two, in both orders.
-#[derive(Drop)]
-struct Five<E: Engine + Drop> {
-    plain: E,
-    one: E,
-    two: E,
-    three: E,
-    four: E,
-}
-
-fn show_five<E: Engine + Drop>(
+// Fresh engines of a kind: one plain, and the others under one layer or two, in both orders.
+fn show_piles<E: Engine + Drop, F: Fn() -> io::Result<E>>(
     rt: &impl Print,
     kind: &str,
-    engines: Five<E>,
-    blocks: &[u8],
-    words: &[u32],
-) -> io::Result<()> {
+    make: F,
+    case: Case<'_>,
+) -> io::Result<()>
+    requires { F.IsAlwaysCallable make }
+{
     println!(rt; " {kind}")?;
-    let Five {
-        mut plain,
-        one,
-        two,
-        three,
-        four,
-    } = engines;
-    show(rt, "plain", &mut plain, blocks, words)?;
-    under_hvn(rt, one, blocks, words)?;
-    under_hu(rt, two, blocks, words)?;
-    under_hu_hvn(rt, three, blocks, words)?;
-    under_hvn_hu(rt, four, blocks, words)
+    show(rt, "plain", &mut make()?, case)?;
+    let hvn = || Ok(Merging::new(Hvn::new(), make()?));
+    let hu = || Ok(Merging::new(Hu::new(), make()?));
+    show_pile(rt, "hvn", hvn, case)?;
+    show_pile(rt, "hu", hu, case)?;
+    show_pile(rt, "hu+hvn", || Ok(Merging::new(Hu::new(), hvn()?)), case)?;
+    show_pile(rt, "hvn+hu", || Ok(Merging::new(Hvn::new(), hu()?)), case)
 }
 
-fn worklist_bits(rt: &impl Print, heap: Global, blocks: &[u8], words: &[u32]) -> io::Result<()> {
-    let plain = worklist_over(BitRows::new(vec![in heap; 0; 2048]?));
-    let one = worklist_over(BitRows::new(vec![in heap; 0; 2048]?));
-    let two = worklist_over(BitRows::new(vec![in heap; 0; 2048]?));
-    let three = worklist_over(BitRows::new(vec![in heap; 0; 2048]?));
-    let four = worklist_over(BitRows::new(vec![in heap; 0; 2048]?));
-    let engines = Five {
-        plain,
-        one,
-        two,
-        three,
-        four,
-    };
-    show_five(rt, "worklist/bits", engines, blocks, words)
-}
-
-fn worklist_chains(rt: &impl Print, heap: Global, blocks: &[u8], words: &[u32]) -> io::Result<()> {
-    let plain = worklist_over(Chains::new(vec![in heap; UNUSED; 1024]?));
-    let one = worklist_over(Chains::new(vec![in heap; UNUSED; 1024]?));
-    let two = worklist_over(Chains::new(vec![in heap; UNUSED; 1024]?));
-    let three = worklist_over(Chains::new(vec![in heap; UNUSED; 1024]?));
-    let four = worklist_over(Chains::new(vec![in heap; UNUSED; 1024]?));
-    let engines = Five {
-        plain,
-        one,
-        two,
-        three,
-        four,
-    };
-    show_five(rt, "worklist/chains", engines, blocks, words)
-}
-
-fn difference_bits(rt: &impl Print, heap: Global, blocks: &[u8], words: &[u32]) -> io::Result<()> {
-    let plain = difference_over(BitRows::new(vec![in heap; 0; 2048]?));
-    let one = difference_over(BitRows::new(vec![in heap; 0; 2048]?));
-    let two = difference_over(BitRows::new(vec![in heap; 0; 2048]?));
-    let three = difference_over(BitRows::new(vec![in heap; 0; 2048]?));
-    let four = difference_over(BitRows::new(vec![in heap; 0; 2048]?));
-    let engines = Five {
-        plain,
-        one,
-        two,
-        three,
-        four,
-    };
-    show_five(rt, "difference/bits", engines, blocks, words)
-}
-
-fn difference_chains(
-    rt: &impl Print,
-    heap: Global,
-    blocks: &[u8],
-    words: &[u32],
-) -> io::Result<()> {
-    let plain = difference_over(Chains::new(vec![in heap; UNUSED; 1024]?));
-    let one = difference_over(Chains::new(vec![in heap; UNUSED; 1024]?));
-    let two = difference_over(Chains::new(vec![in heap; UNUSED; 1024]?));
-    let three = difference_over(Chains::new(vec![in heap; UNUSED; 1024]?));
-    let four = difference_over(Chains::new(vec![in heap; UNUSED; 1024]?));
-    let engines = Five {
-        plain,
-        one,
-        two,
-        three,
-        four,
-    };
-    show_five(rt, "difference/chains", engines, blocks, words)
-}
-
-fn every_pile(
-    rt: &impl Print,
-    heap: Global,
-    name: &str,
-    blocks: &[u8],
-    words: &[u32],
-) -> io::Result<()> {
+fn every_pile(rt: &impl Print, heap: Global, case: Case<'_>) -> io::Result<()> {
+    let name = case.name;
     println!(rt; "{name}")?;
-    worklist_bits(rt, heap, blocks, words)?;
-    worklist_chains(rt, heap, blocks, words)?;
-    difference_bits(rt, heap, blocks, words)?;
-    difference_chains(rt, heap, blocks, words)
+    show_piles(rt, "worklist/bits", || Ok(worklist_over(bits(heap)?)), case)?;
+    show_piles(
+        rt,
+        "worklist/chains",
+        || Ok(worklist_over(chained(heap, 1024)?)),
+        case,
+    )?;
+    show_piles(
+        rt,
+        "difference/bits",
+        || Ok(difference_over(bits(heap)?)),
+        case,
+    )?;
+    show_piles(
+        rt,
+        "difference/chains",
+        || Ok(difference_over(chained(heap, 1024)?)),
+        case,
+    )
 }
 
 // 33 objects in row 33, copied to 31 others.
-fn fan_out(words: &mut [u32; 64]) {
-    for i in 0..33 {
-        words[i] = 33 * 4096 + i as u32;
-    }
-    for i in 0..31 {
-        words[33 + i] = 0x4000_0000 + (34 + i as u32) * 4096 + 33;
-    }
+fn fan_out(heap: Global) -> Result<Vec<u32>, AllocError> {
+    let held = (0..33u32).map(|object| 33 * 4096 + object);
+    let copies = (34..65u32).map(|row| 0x4000_0000 + row * 4096 + 33);
+    held.chain(copies).collect(heap)
 }
 
 // A room fault's depth rises by one with each layer. The first word is a copy onto itself, which no layer hands down.
-fn higher<E: Engine + Drop>(
-    rt: &impl Print,
-    mut engine: E,
-    blocks: &[u8],
-    words: &[u32],
-) -> io::Result<()> {
-    show(rt, "height 0", &mut engine, blocks, words)?;
+fn higher<E: Engine + Drop>(rt: &impl Print, mut engine: E, case: Case<'_>) -> io::Result<()> {
+    show(rt, "height 0", &mut engine, case)?;
     let mut engine = Merging::new(Hvn::new(), engine);
-    show_layer(rt, "height 1", &mut engine, blocks, words)?;
+    show_layer(rt, "height 1", &mut engine, case)?;
     let mut engine = Merging::new(Hu::new(), engine);
-    show_layer(rt, "height 2", &mut engine, blocks, words)?;
+    show_layer(rt, "height 2", &mut engine, case)?;
     let mut engine = Merging::new(Hvn::new(), engine);
-    show_layer(rt, "height 3", &mut engine, blocks, words)?;
-    let fewer = words.len().saturating_sub(1);
+    show_layer(rt, "height 3", &mut engine, case)?;
+    let fewer = case.words.len().saturating_sub(1);
+    let shorter = Case {
+        words: &case.words[..fewer],
+        ..case
+    };
     show_layer(
         rt,
         "afterwards, without the last word",
         &mut engine,
-        blocks,
-        &words[..fewer],
+        shorter,
     )
 }
 
 fn depths(rt: &impl Print, heap: Global) -> io::Result<()> {
-    println!(rt; "three objects in row 3, room for two pairs")?;
-    let engine = worklist_over(Chains::new(vec![in heap; UNUSED; 2]?));
-    higher(
-        rt,
-        engine,
-        &[1; 4],
-        &[0x4000_3003, 0x0000_3000, 0x0000_3001, 0x0000_3002],
-    )
+    let case = Case {
+        name: "three objects in row 3, room for two pairs",
+        blocks: &[1; 4],
+        words: &[0x4000_3003, 0x0000_3000, 0x0000_3001, 0x0000_3002],
+    };
+    let name = case.name;
+    println!(rt; "{name}")?;
+    higher(rt, worklist_over(chained(heap, 2)?), case)
 }
 
 fn main(rt: HostRuntime) -> io::Result<()> {
-    every_pile(&rt, rt.alloc(), "no block, no word", &[], &[])?;
-    every_pile(
-        &rt,
-        rt.alloc(),
-        "a chain of copies",
-        &[1; 5],
-        &[0x0000_2000, 0x4000_3002, 0x4000_4003],
-    )?;
-    every_pile(
-        &rt,
-        rt.alloc(),
-        "a set and a part of it",
-        &[1; 6],
-        &[
-            0x0000_2000,
-            0x0000_3001,
-            0x4000_4002,
-            0x4000_4003,
-            0x4000_5004,
-            0x4000_5002,
-        ],
-    )?;
-    every_pile(
-        &rt,
-        rt.alloc(),
-        "a store past a block's end",
-        &[3, 1, 1],
-        &[0x0000_4000, 0x0000_3003, 0xD800_4003],
-    )?;
-    every_pile(
-        &rt,
-        rt.alloc(),
-        "a store into a block's last cell",
-        &[3, 1, 1],
-        &[0x0000_4000, 0x0000_3003, 0xD000_4003],
-    )?;
-    every_pile(
-        &rt,
-        rt.alloc(),
-        "an indirect call of two functions",
-        &[3, 3, 1, 1, 1],
-        &[0x0000_7000, 0x0000_7003, 0xD000_7006, 0x8800_8007],
-    )?;
-    let mut words = [0; 64];
-    fan_out(&mut words);
-    every_pile(
-        &rt,
-        rt.alloc(),
-        "33 objects copied to 31 rows",
-        &[1; 65],
-        &words,
-    )?;
-    depths(&rt, rt.alloc())
+    let heap = rt.alloc();
+    let fan = fan_out(heap)?;
+    let cases = [
+        Case {
+            name: "no block, no word",
+            blocks: &[],
+            words: &[],
+        },
+        Case {
+            name: "a chain of copies",
+            blocks: &[1; 5],
+            words: &[0x0000_2000, 0x4000_3002, 0x4000_4003],
+        },
+        Case {
+            name: "a set and a part of it",
+            blocks: &[1; 6],
+            words: &[
+                0x0000_2000,
+                0x0000_3001,
+                0x4000_4002,
+                0x4000_4003,
+                0x4000_5004,
+                0x4000_5002,
+            ],
+        },
+        Case {
+            name: "a store past a block's end",
+            blocks: &[3, 1, 1],
+            words: &[0x0000_4000, 0x0000_3003, 0xD800_4003],
+        },
+        Case {
+            name: "a store into a block's last cell",
+            blocks: &[3, 1, 1],
+            words: &[0x0000_4000, 0x0000_3003, 0xD000_4003],
+        },
+        Case {
+            name: "an indirect call of two functions",
+            blocks: &[3, 3, 1, 1, 1],
+            words: &[0x0000_7000, 0x0000_7003, 0xD000_7006, 0x8800_8007],
+        },
+        Case {
+            name: "33 objects copied to 31 rows",
+            blocks: &[1; 65],
+            words: &fan,
+        },
+    ];
+    for case in cases {
+        every_pile(&rt, heap, case)?;
+    }
+    depths(&rt, heap)
 }
