@@ -1,8 +1,9 @@
 -- Decoding and encoding undo each other.
-use Rattle.std.proofs.Common.{◌≡◌, ℕ, ◌+◌, ◌*◌, ◌/◌, ◌%◌, ◌^◌, ◌<◌, Bool, true, false, cond, ◌&&◌, ltb, is_some, Some, None, Option, sym, refl, ap, ◌∙◌, subst, arith}
-use Rattle.std.proofs.lemmas.Bool.{lt-ltb, ltb-true, and_parts, false≢true}
-use Rattle.constraints.specs.Constraint.{of_kind, kind, left, offset, right, decode}
-use Rattle.constraints.specs.Encoding.{word_of, written, PlainWord}
+use Rattle.std.proofs.Common.{◌≡◌, ℕ, zero, suc, ◌+◌, ◌*◌, ◌/◌, ◌%◌, ◌^◌, ◌<◌, Bool, true, false, cond, ◌&&◌, eqb, ltb, is_some, Some, None, Option, sym, refl, ap, ◌∙◌, subst, arith}
+use Rattle.std.specs.Option.{option_eq}
+use Rattle.std.proofs.lemmas.Bool.{eqb-true, eq-eqb, lt-ltb, ltb-true, and_parts, false≢true}
+use Rattle.constraints.specs.Constraint.{Constraint, address, copy, load, store, of_kind, kind, left, offset, right, decode}
+use Rattle.constraints.specs.Encoding.{word_of, written, encode, PlainWord}
 
 -- a word whose fields fit their bits
 pub written_some : (n p k q : ℕ) → p < 4096 → q < 4096 → k < 8 → Some (word_of n p k q) ≡ written n p k q
@@ -60,6 +61,13 @@ written_decodes n p k q few w = go (ltb p 4096 && ltb q 4096 && ltb k 8) refl
         let (l, r, small) = fitting p q k t in
         subst (λ x. decode x ≡ of_kind n p k q) (some_same e) (decode_word_of n p k q few l r small)
 
+-- a written word stands for its constraint
+pub encode_back : (c : Constraint) (w : ℕ) → encode c ≡ Some w → decode w ≡ c
+encode_back (address p o) w e = written_decodes 0 p 0 o (omega arith) w e
+encode_back (copy p q) w e = written_decodes 1 p 0 q (omega arith) w e
+encode_back (load p q k) w e = written_decodes 2 p k q (omega arith) w e
+encode_back (store p k q) w e = written_decodes 3 p k q (omega arith) w e
+
 assembled : (w a b c n k p q : ℕ) → w ≡ 4096 * a + q → a ≡ 4096 * b + p → b ≡ 8 * c → c ≡ 8 * n + k → word_of n p k q ≡ w
 assembled w a b c n k p q e f g h = omega arith
 
@@ -83,3 +91,52 @@ rebuilt w n k plain kind_is offset_is =
 pub decode_kind : (w n : ℕ) → kind w ≡ n → of_kind n (left w) (offset w) (right w) ≡ decode w
 unfolding decode
 decode_kind w n e = rw (← e) refl
+
+pub decode_back : (w : ℕ) → PlainWord w → encode (decode w) ≡ Some w
+unfolding decode
+decode_back w plain = go (kind w) refl
+  where
+    go : (n : ℕ) → kind w ≡ n → encode (of_kind n (left w) (offset w) (right w)) ≡ Some w
+    go zero e = rebuilt w 0 0 plain e (plain.no_offset (omega arith))
+    go (suc zero) e = rebuilt w 1 0 plain e (plain.no_offset (omega arith))
+    go (suc (suc zero)) e = rebuilt w 2 (offset w) plain e refl
+    go (suc (suc (suc n))) e = rebuilt w 3 (offset w) plain (omega arith) refl
+
+pub same_word : (r : Option ℕ) (w : ℕ) → option_eq eqb r (Some w) ≡ true → r ≡ Some w
+same_word None w e = absurd (false≢true e)
+same_word (Some x) w e = ap Some (eqb-true x w e)
+
+pub word_same : (r : Option ℕ) (w : ℕ) → r ≡ Some w → option_eq eqb r (Some w) ≡ true
+word_same r w e = rw e (eq-eqb w w refl)
+
+-- a word that its constraint is written as
+written_is : (n p k q w : ℕ) → written n p k q ≡ Some w → (word_of n p k q ≡ w) × (p < 4096) × (q < 4096) × (k < 8)
+unfolding written
+written_is n p k q w = go (ltb p 4096 && ltb q 4096 && ltb k 8) refl
+  where
+    go : (b : Bool) → ltb p 4096 && ltb q 4096 && ltb k 8 ≡ b → cond b (Some (word_of n p k q)) None ≡ Some w
+        → (word_of n p k q ≡ w) × (p < 4096) × (q < 4096) × (k < 8)
+    go false t e = absurd (none_some e)
+    go true t e = let (l, r, small) = fitting p q k t in (some_same e, l, r, small)
+
+zeros_of : (n p k q w : ℕ) → written n p k q ≡ Some w → w / 0x0100_0000 % 8 ≡ 0
+zeros_of n p k q w e =
+    let (is, p_in, q_in, k_in) = written_is n p k q w e in
+    let upper : w / 4096 ≡ (n * 0x0004_0000 + k * 0x8000) + p = omega (arith, is, left_to n p k q q_in) in
+    omega arith
+
+offset_of : (n p k q w : ℕ) → n < 4 → written n p k q ≡ Some w → offset w ≡ k
+offset_of n p k q w few e =
+    let (is, p_in, q_in, k_in) = written_is n p k q w e in
+    let upper : w / 0x0800_0000 ≡ n * 8 + k = ap (λ x. x / 0x0800_0000) (sym is) ∙ offset_to n p k q p_in q_in in
+    omega arith
+
+pub plain_if : (w : ℕ) → w < 2 ^ 32 → encode (decode w) ≡ Some w → PlainWord w
+unfolding decode
+plain_if w bits = go (kind w) refl
+  where
+    go : (n : ℕ) → kind w ≡ n → encode (of_kind n (left w) (offset w) (right w)) ≡ Some w → PlainWord w
+    go zero e f = record { word_bits = bits; zero_bits = zeros_of 0 _ _ _ w f; no_offset = λ h. offset_of 0 _ _ _ w (omega arith) f }
+    go (suc zero) e f = record { word_bits = bits; zero_bits = zeros_of 1 _ _ _ w f; no_offset = λ h. offset_of 1 _ _ _ w (omega arith) f }
+    go (suc (suc zero)) e f = record { word_bits = bits; zero_bits = zeros_of 2 _ _ _ w f; no_offset = λ h. absurd (omega arith) }
+    go (suc (suc (suc n))) e f = record { word_bits = bits; zero_bits = zeros_of 3 _ _ _ w f; no_offset = λ h. absurd (omega arith) }

@@ -1,8 +1,9 @@
 -- Words stay formed as blocks are appended; the computed test says what a word must be.
-use Rattle.std.proofs.Common.{◌≡◌, ℕ, zero, suc, ◌+◌, ◌/◌, ◌%◌, ◌^◌, ◌<◌, Bool, true, false, cond, eqb, ltb, List, [], ◌∷◌, ◌++◌, length, get_or, replicate, sym, refl, ap, ◌∙◌, arith}
-use Rattle.std.proofs.lemmas.Bool.{and_parts, and_from, eqb-true, ltb-true, lt-ltb, eq-eqb, ne_eqb, cond-true, cond-false}
-use Rattle.constraints.specs.Constraint.{kind, left, offset, right, variables, length_from, length_of, WellFormed}
-use Rattle.constraints.specs.Words.{kind_rule, is_word}
+use Rattle.std.proofs.Common.{◌≡◌, ℕ, zero, suc, ◌+◌, ◌/◌, ◌%◌, ◌^◌, ◌<◌, Bool, true, false, cond, ◌&&◌, eqb, ltb, List, [], ◌∷◌, ◌++◌, length, get_or, replicate, sym, refl, ap, ◌∙◌, arith}
+use Rattle.std.proofs.lemmas.Bool.{and_parts, and_from, eqb-true, ltb-true, lt-ltb, eq-eqb, ne_eqb, cond-true, cond-false, false_from_ne_true, false≢true}
+use Rattle.constraints.specs.Constraint.{of_kind, kind, left, offset, right, decode, variables, length_from, length_of, WellFormed}
+use Rattle.constraints.specs.Encoding.{PlainWord}
+use Rattle.constraints.specs.Words.{kind_rule, names, is_word}
 use Rattle.constraints.proofs.Least.{block_below}
 
 pub variables_push : (bs : List ℕ) (n : ℕ) → variables (bs ++ n ∷ []) ≡ variables bs + n
@@ -123,13 +124,9 @@ formed_word bs w f =
 pub word_right : (bs : List ℕ) (w : ℕ) → Parts bs w → true ≡ is_word bs w
 word_right bs w p = sym (from_parts bs w p)
 
-bool_false : (b : Bool) → (b ≡ true → ⊥) → b ≡ false
-bool_false true h = absurd (h refl)
-bool_false false h = refl
-
 -- what one part refuses
 pub not_word : (bs : List ℕ) (w : ℕ) → (Parts bs w → ⊥) → false ≡ is_word bs w
-not_word bs w no_parts = sym (bool_false (is_word bs w) (λ e. no_parts (parts_of bs w e)))
+not_word bs w no_parts = sym (false_from_ne_true (is_word bs w) (λ e. no_parts (parts_of bs w e)))
 
 zeros : (n o z : ℕ) → get_or (replicate n z) o z ≡ z
 zeros zero o z = refl
@@ -140,3 +137,51 @@ zeros (suc n) (suc o) z = zeros n o z
 pub none_told : (n o : ℕ) → get_or {A = ℕ} (replicate n 0) o 0 ≡ length_of [] o
 unfolding length_of
 none_told n o = zeros n o 0
+
+bool_same : (a b : Bool) → (a ≡ true → b ≡ true) → (b ≡ true → a ≡ true) → a ≡ b
+bool_same true b to from = sym (to refl)
+bool_same false b to from = sym (false_from_ne_true b (λ e. false≢true (from e)))
+
+module _ (bs : List ℕ) (w : ℕ) (plain : PlainWord w) where
+  no_object : (0 < kind w) → ltb (left w) (variables bs) && ltb (right w) (variables bs) ≡ is_word bs w
+  no_object other =
+      bool_same _ _ (λ t.
+      let sides = and_parts (ltb (left w) (variables bs)) (ltb (right w) (variables bs)) t in
+      from_parts bs w (record {
+        word_bits = plain.word_bits;
+        left_in = ltb-true _ _ sides.0;
+        right_in = ltb-true _ _ sides.1;
+        zero_bits = plain.zero_bits;
+        ruled = ruled_if bs (kind w) (offset w) (right w) plain.no_offset (λ h. absurd (omega arith));
+      }))
+      (λ t. let p = parts_of bs w t in and_from _ _ (lt-ltb _ _ p.left_in) (lt-ltb _ _ p.right_in))
+
+  an_object : kind w ≡ 0 → ltb (left w) (variables bs) && ltb 0 (length_of bs (right w)) ≡ is_word bs w
+  an_object first =
+      bool_same _ _ (λ t.
+      let sides = and_parts (ltb (left w) (variables bs)) (ltb 0 (length_of bs (right w))) t in
+      let some : 0 < length_of bs (right w) = ltb-true _ _ sides.1 in
+      from_parts bs w (record {
+        word_bits = plain.word_bits;
+        left_in = ltb-true _ _ sides.0;
+        right_in = omega (arith, block_below bs (right w) 0 some);
+        zero_bits = plain.zero_bits;
+        ruled = ruled_if bs (kind w) (offset w) (right w) plain.no_offset (λ h. some);
+      }))
+      (λ t.
+      let p = parts_of bs w t in
+      and_from _ _ (lt-ltb _ _ p.left_in) (lt-ltb _ _ (rule_object bs (kind w) (offset w) (right w) p.ruled first)))
+
+  pub names_word : names bs (decode w) ≡ is_word bs w
+  unfolding decode
+  names_word = go (kind w) refl
+    where
+      go : (n : ℕ) → kind w ≡ n → names bs (of_kind n (left w) (offset w) (right w)) ≡ is_word bs w
+      go zero e = an_object e
+      go (suc zero) e = no_object (omega arith)
+      go (suc (suc zero)) e = no_object (omega arith)
+      go (suc (suc (suc n))) e = no_object (omega arith)
+
+pub plain_parts : (bs : List ℕ) (w : ℕ) → Parts bs w → PlainWord w
+plain_parts bs w p =
+    record { word_bits = p.word_bits; zero_bits = p.zero_bits; no_offset = rule_offset bs (kind w) (offset w) (right w) p.ruled }

@@ -1,6 +1,15 @@
 -- Words from constraints, the other way round of `decode`.
 use Rattle.std.specs.Prelude.{◌≡◌, ℕ, ◌+◌, ◌*◌, ◌/◌, ◌%◌, ◌^◌, ◌<◌, cond, ◌&&◌, Some, None, Option, nat_lt}
 use Rattle.constraints.specs.Constraint.{Constraint, address, copy, load, store, kind, offset}
+use Rattle.constraints.specs.declared.constraint.Kind.{Kind}
+use Rattle.constraints.specs.declared.constraint.Kind.TheVariants as Kinds
+
+-- the number of a kind in a word
+abbrev pub kind_number : Kind → ℕ
+kind_number Kinds.Address = 0
+kind_number Kinds.Copy = 1
+kind_number Kinds.Load = 2
+kind_number Kinds.Store = 3
 
 -- the word with these fields: kind, left variable, offset, right variable
 abbrev pub word_of : ℕ → ℕ → ℕ → ℕ → ℕ

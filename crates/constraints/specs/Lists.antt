@@ -1,5 +1,5 @@
 -- What a list means, and what each change of it replies and leaves.
-use Rattle.std.specs.Prelude.{ℕ, ◌+◌, cond, ◌&&◌, [], ◌∷◌, ◌++◌, length, take, Ok, Err, Result, nat_le, nat_lt}
+use Rattle.std.specs.Prelude.{ℕ, ◌+◌, cond, ◌&&◌, [], ◌∷◌, ◌++◌, length, Ok, Err, Result, nat_le, nat_lt}
 use Rattle.constraints.specs.Constraint.{System, var_count}
 use Rattle.constraints.specs.Words.{is_word}
 use Rattle.constraints.specs.declared.list.calls.ListFault.{ListFault}
@@ -14,7 +14,7 @@ refusal_number Malformed = 4
 refusal_number Words = 5
 
 abbrev pub system_of : ConstraintList → System
-system_of p = record { blocks = take p.blocks p.lengths; words = take p.count p.words }
+system_of p = record { blocks = p.lengths.items; words = p.words.items }
 
 -- no block and no word
 abbrev pub no_words : System

@@ -1,10 +1,10 @@
 // Inclusion constraints and the 32-bit words that they are written as.
 ghost use Rattle.std.specs.Prelude.{◌≡◌, ℕ, ◌<◌, Some};
-ghost use Rattle.constraints.specs.Constraint.{decode};
-ghost use Rattle.constraints.specs.Encoding.{written, encode, PlainWord};
+ghost use Rattle.constraints.specs.Constraint.{kind, decode};
+ghost use Rattle.constraints.specs.Encoding.{kind_number, written, encode, PlainWord};
 
-// The four kinds. In a word a variable has 12 bits and an offset 3.
-#[derive(Clone, Copy, PartialEq, Eq)]
+// In a word a variable has 12 bits and an offset 3.
+#[derive(Clone, Copy, PartialEq, Eq, Debug)]
 pub enum Constraint {
     // row `left` holds `object`
     Address { left: u16, object: u16 },
@@ -16,18 +16,42 @@ pub enum Constraint {
     Store { left: u16, offset: u16, right: u16 },
 }
 
-// A word by its fields, where each fits its bits.
-fn word_of(kind: u32, left: u16, offset: u16, right: u16) -> Option<u32>
-    requires { kind < 4 }
-    ensures { result ≡ written kind left offset right }
-{
-    if left >= 4096 || right >= 4096 {
-        return None;
+// The kind of a constraint, as bits 31 and 30 of its word say it.
+#[derive(Clone, Copy, PartialEq, Eq, Debug)]
+enum Kind {
+    Address,
+    Copy,
+    Load,
+    Store,
+}
+
+impl Kind {
+    fn of(word: u32) -> Kind
+        ensures { kind_number result ≡ kind word }
+    {
+        match word >> 30 {
+            0 => Kind::Address,
+            1 => Kind::Copy,
+            2 => Kind::Load,
+            _ => Kind::Store,
+        }
     }
-    if offset >= 8 {
-        return None;
+
+    // A word by its fields, where each fits its bits.
+    fn word_of(self, left: u16, offset: u16, right: u16) -> Option<u32>
+        ensures { result ≡ written (kind_number self) left offset right }
+    {
+        if left < 4096 && right < 4096 && offset < 8 {
+            Some(
+                self as u32 * 0x4000_0000
+                    + u32::from(offset) * 0x800_0000
+                    + u32::from(left) * 4096
+                    + u32::from(right),
+            )
+        } else {
+            None
+        }
     }
-    Some(kind * 0x4000_0000 + offset as u32 * 0x800_0000 + left as u32 * 4096 + right as u32)
 }
 
 impl Constraint {
@@ -39,26 +63,22 @@ impl Constraint {
         let left = ((word >> 12) % 4096) as u16;
         let right = (word % 4096) as u16;
         let offset = ((word >> 27) % 8) as u16;
-        let kind = word >> 30;
-        if kind == 0 {
-            Constraint::Address {
+        match Kind::of(word) {
+            Kind::Address => Constraint::Address {
                 left,
                 object: right,
-            }
-        } else if kind == 1 {
-            Constraint::Copy { left, right }
-        } else if kind == 2 {
-            Constraint::Load {
+            },
+            Kind::Copy => Constraint::Copy { left, right },
+            Kind::Load => Constraint::Load {
                 left,
                 right,
                 offset,
-            }
-        } else {
-            Constraint::Store {
+            },
+            Kind::Store => Constraint::Store {
                 left,
                 offset,
                 right,
-            }
+            },
         }
     }
 
@@ -68,18 +88,18 @@ impl Constraint {
         ensures back { (w : ℕ) → result ≡ Some w → decode w ≡ self }
     {
         match self {
-            Constraint::Address { left, object } => word_of(0, left, 0, object),
-            Constraint::Copy { left, right } => word_of(1, left, 0, right),
+            Constraint::Address { left, object } => Kind::Address.word_of(left, 0, object),
+            Constraint::Copy { left, right } => Kind::Copy.word_of(left, 0, right),
             Constraint::Load {
                 left,
                 right,
                 offset,
-            } => word_of(2, left, offset, right),
+            } => Kind::Load.word_of(left, offset, right),
             Constraint::Store {
                 left,
                 offset,
                 right,
-            } => word_of(3, left, offset, right),
+            } => Kind::Store.word_of(left, offset, right),
         }
     }
 }

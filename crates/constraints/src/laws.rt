@@ -4,53 +4,43 @@ ghost use Rattle.constraints.specs.Theorems.{LeastIsSmallest, SmallestIsUnique, 
 ghost use Rattle.constraints.specs.Value.{value_class};
 
 // The smallest solution exists, is one, and holds what every solution holds.
-pub fn smallest_solution() -> u8
+pub fn smallest_solution()
     ensures exists { LeastIsSmallest }
     ensures unique { SmallestIsUnique }
     ensures common { InEverySolution }
     ensures untyped { ObjectsMakeNoDifference }
     ensures taken { ObjectsAreTaken }
     ensures prefix { PrefixIsContained }
-{
-    0
-}
+{}
 
 // Variables may bear other numbers; blocks tell which are objects.
-pub fn numbers_of_variables() -> u8
+pub fn numbers_of_variables()
     ensures renumbered { RenumberingKeepsRows }
     ensures embedded { EmbeddingKeepsPairs }
     ensures objects { ObjectsStartBlocks }
     ensures slots { OneSlot }
-{
-    0
-}
+{}
 
 // How many pairs there are, which lists fit a room, and where one stops fitting.
-pub fn counting_pairs() -> u8
+pub fn counting_pairs()
     ensures contained { ContainedHasFewer }
     ensures one_more { NewPairCountsOne }
     ensures settled { SettledIsLeast }
     ensures full { FullIsTooMany }
     ensures position { PositionIsEarliest }
-{
-    0
-}
+{}
 
 // Variables with equal marks or equal values have equal rows, and the reduced list keeps the rows.
-pub fn merging() -> u8
+pub fn merging()
     ensures reach { ReachesByWalks }
     ensures marks { EqualMarksEqualRows }
     ensures reduction { ReducedHasSameRows }
     ensures by_mark { LayerIsRight same_mark }
     ensures by_value { LayerIsRight value_class }
     ensures own_position { OwnPosition }
-{
-    0
-}
+{}
 
 // The table of lists with known outcomes is right.
-pub fn known_outcomes() -> u8
+pub fn known_outcomes()
     ensures { KnownOutcomes }
-{
-    0
-}
+{}

@@ -1,13 +1,15 @@
 // What is done with a list.
-ghost use Rattle.std.specs.Prelude.{◌≡◌, ℕ, ◌≤◌, length};
+ghost use Rattle.std.specs.Prelude.{◌≡◌, ℕ, ◌≤◌, length, nat_lt};
 ghost use Rattle.constraints.specs.Constraint.{length_of, variables, Valid};
-ghost use Rattle.constraints.specs.Words.{is_word};
+ghost use Rattle.constraints.specs.Words.{names, is_word};
 ghost use Rattle.constraints.specs.Lists.{system_of, no_words, refusal_number, block_reply, after_block, word_reply, after_word};
 
+use crate::constraint::Constraint;
 use crate::list::ConstraintList;
+use arrayvec::ArrayVec;
 
 // Why a list does not take a block or a word.
-#[derive(Clone, Copy, PartialEq, Eq)]
+#[derive(Clone, Copy, PartialEq, Eq, Debug)]
 pub enum ListFault {
     // a block's length is not 1 to 8
     Length,
@@ -39,12 +41,10 @@ impl ConstraintList {
         ensures { system_of result ≡ no_words }
     {
         ConstraintList {
-            lengths: [0; 256],
-            blocks: 0,
+            lengths: ArrayVec::new(),
             starting: [0; 256],
             width: 0,
-            words: [0; 512],
-            count: 0,
+            words: ArrayVec::new(),
         }
     }
 
@@ -58,14 +58,14 @@ impl ConstraintList {
     pub fn blocks(&self) -> &[u8]
         ensures { result.now ≡ (system_of self.now).blocks }
     {
-        &self.lengths[..self.blocks]
+        self.lengths.as_slice()
     }
 
     pub fn words(&self) -> &[u32]
         ensures value { result.now ≡ (system_of self.now).words }
         ensures valid { Valid (system_of self.now) }
     {
-        &self.words[..self.count]
+        self.words.as_slice()
     }
 
     // How many variables there are.
@@ -77,33 +77,39 @@ impl ConstraintList {
     }
 
     // The length of the block whose first variable is o, 0 where none begins there.
+    // Stays: 0 for no block, since an offset is allowed where it is below this length, and below 0 none is.
     pub fn length_of(&self, o: usize) -> u8
         ensures { result ≡ length_of (system_of self.now).blocks o }
     {
-        if o < 256 { self.starting[o] } else { 0 }
+        self.starting.get(o).copied().unwrap_or(0)
     }
 
-    // Whether the word may stand in the list.
+    // Whether the word may stand in the list: it is the word of its constraint, which names what there is.
     pub fn allows(&self, word: u32) -> bool
         ensures { result ≡ is_word (system_of self.now).blocks word }
     {
-        let left = ((word >> 12) % 4096) as usize;
-        let right = (word % 4096) as usize;
-        let width = self.width;
-        if left >= width || right >= width {
-            return false;
+        let constraint = Constraint::decode(word);
+        constraint.encode() == Some(word) && self.names(constraint)
+    }
+
+    // Whether the constraint's variables lie in blocks, and the object of an address begins one.
+    fn names(&self, constraint: Constraint) -> bool
+        ensures { result ≡ names (system_of self.now).blocks constraint }
+    {
+        match constraint {
+            Constraint::Address { left, object } => {
+                self.has(left) && self.length_of(usize::from(object)) > 0
+            }
+            Constraint::Copy { left, right }
+            | Constraint::Load { left, right, .. }
+            | Constraint::Store { left, right, .. } => self.has(left) && self.has(right),
         }
-        if (word >> 24) % 8 != 0 {
-            return false;
-        }
-        let kind = word >> 30;
-        if kind >= 2 {
-            return true;
-        }
-        if (word >> 27) % 8 != 0 {
-            return false;
-        }
-        kind == 1 || self.length_of(right) > 0
+    }
+
+    fn has(&self, variable: u16) -> bool
+        ensures { result ≡ nat_lt variable (variables (system_of self.now).blocks) }
+    {
+        usize::from(variable) < self.width
     }
 
     // Appends a block and answers its first variable.
@@ -111,17 +117,17 @@ impl ConstraintList {
         ensures replies { result ≡ block_reply (system_of self.old) n }
         ensures after { system_of self.new ≡ after_block (system_of self.old) n }
     {
-        if n < 1 || n > 8 {
+        if !matches!(n, 1..=8) {
             return Err(ListFault::Length);
         }
         let first = self.width;
-        if first + n as usize > 256 {
+        let width = first + usize::from(n);
+        if width > 256 {
             return Err(ListFault::Variables);
         }
-        self.lengths[self.blocks] = n;
+        self.lengths.push(n);
         self.starting[first] = n;
-        self.blocks += 1;
-        self.width += n as usize;
+        self.width = width;
         Ok(first as u16)
     }
 
@@ -133,11 +139,6 @@ impl ConstraintList {
         if !self.allows(word) {
             return Err(ListFault::Malformed);
         }
-        if self.count >= 512 {
-            return Err(ListFault::Words);
-        }
-        self.words[self.count] = word;
-        self.count += 1;
-        Ok(())
+        self.words.try_push(word).map_err(|_| ListFault::Words)
     }
 }

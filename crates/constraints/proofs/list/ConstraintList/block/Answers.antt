@@ -1,20 +1,20 @@
-use Rattle.std.proofs.Common.{◌<◌, length, take, arith}
-use Rattle.constraints.proofs.Pushed.{sized_push, formed_push, width_push, told_push, block_accepted, block_pushed}
+use Rattle.std.proofs.Common.{◌<◌, ◌≤◌, get_or, arith}
+use Rattle.constraints.proofs.Formed.{variables_push, word_push}
+use Rattle.constraints.proofs.Pushed.{each_push, told_push}
 use Rattle.constraints.proofs.list.ConstraintList.block.Goals as goal
 
 pub invariant_of-self : goal.invariant_of-self
 invariant_of-self c =
     let s = c.args.self.now in
     let n = c.args.n in
-    let inside : s.blocks < length s.lengths = omega (arith, s.narrow) in
-    let inside' : s.width < length s.starting = omega arith in record { narrow = omega (arith, s.narrow); few = omega arith; within = s.within; counted = width_push s.lengths s.blocks n s.width inside s.counted; told = told_push s.lengths s.blocks n s.width s.starting inside inside' s.counted s.sized s.told; sized = sized_push s.lengths s.blocks n inside (omega arith) (omega arith) s.sized; formed = formed_push s.lengths s.blocks n inside s.words s.count s.formed }
-
-pub returns : goal.returns
-returns c =
-    let s = c.args.self.now in
-    let n = c.args.n in
-    let inside : s.blocks < length s.lengths = omega (arith, s.narrow) in
+    let bs = s.lengths.items in
+    let pushed = c.push.ensures.items in
     record {
-      replies = block_accepted s.lengths s.blocks n s.width (take s.count s.words) (omega arith) (omega arith) (omega arith) s.counted;
-      after = block_pushed s.lengths s.blocks n s.width (take s.count s.words) inside (omega arith) (omega arith) (omega arith) s.counted;
+      narrow = omega arith;
+      few = omega arith;
+      within = s.within;
+      counted = rw (pushed, variables_push) (omega (arith, s.counted));
+      told = rw pushed (told_push bs n s.width s.starting (omega arith) s.counted s.sized s.told);
+      sized = rw pushed (each_push (λ b. (0 < b) × (b ≤ 8)) bs n s.sized (omega arith, omega arith));
+      formed = rw pushed (λ i h. word_push bs n (get_or s.words.items i 0) (s.formed i h));
     }
