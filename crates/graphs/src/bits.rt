@@ -38,7 +38,8 @@ impl<const WIDTH: usize, const WORDS: usize> BitMatrix<WIDTH, WORDS> {
     // The words of row u.
     pub fn row(&self, u: usize) -> &[u32]
         requires { WIDTH * u + WIDTH ≤ WORDS }
-        ensures { result.now ≡ row_at WIDTH self.now.words u }
+        ensures value { result.now ≡ row_at WIDTH self.now.words u }
+        ensures len { length result.now ≡ WIDTH }
     {
         let words = &self.words[..];
         let at = WIDTH * u;
