@@ -1,5 +1,6 @@
 -- Keys at positions: sameness, first positions, and the chains of a hash table.
-use Rattle.std.specs.Prelude.{◌≡◌, ℕ, ◌-◌, ◌%◌, ◌<◌, ◌≤◌, Bool, true, List, ◌≢◌, slice_index}
+use Rattle.std.specs.Prelude.{◌≡◌, ℕ, ◌%◌, ◌<◌, Bool, true, List, Option, None, ◌≢◌, slice_index, slice_index_or}
+use Rattle.std.specs.Option.{ForSome}
 
 -- sameness of the keys at the positions below n is an equivalence
 pub record Equivalence (n : ℕ) (same : ℕ → ℕ → Bool) : Type 0 where
@@ -20,11 +21,11 @@ pub record IsFirst (same : ℕ → ℕ → Bool) (i f : ℕ) : Type 0 where
 abbrev pub Fresh : (ℕ → ℕ → Bool) → ℕ → Type 0
 Fresh same i = (j : ℕ) → j < i → same j i ≢ true
 
--- h is one past the last position below i with P, or 0 where there is none
-pub record Latest (P : ℕ → Type 0) (i h : ℕ) : Type 0 where
-  pub within : h ≤ i
-  pub holds : 0 < h → P (h - 1)
-  pub none : (j : ℕ) → h ≤ j → j < i → P j → ⊥
+-- h is the last position below i with P, or None where there is none
+pub record Latest (P : ℕ → Type 0) (i : ℕ) (h : Option ℕ) : Type 0 where
+  pub within : ForSome h (λ p. p < i)
+  pub holds : ForSome h P
+  pub none : (j : ℕ) → j < i → P j → ForSome h (λ p. p < j) → ⊥
   deriving IsProp as Latest-prop
 
 -- position j is the first of its key, and its key falls into bucket b of 256
@@ -32,13 +33,13 @@ abbrev pub Entry : (ℕ → ℕ → Bool) → (ℕ → ℕ) → ℕ → ℕ → 
 Entry same hash b j = Fresh same j × (hash j % 256 ≡ b)
 
 -- each link leads to the entry of the same bucket before it
-abbrev pub Linked : (ℕ → ℕ → Bool) → (ℕ → ℕ) → List ℕ → ℕ → Type 0
+abbrev pub Linked : (ℕ → ℕ → Bool) → (ℕ → ℕ) → List (Option ℕ) → ℕ → Type 0
 Linked same hash links i =
-    (r : ℕ) → r < i → Fresh same r → Latest (Entry same hash (hash r % 256)) r (slice_index links r)
+    (r : ℕ) → r < i → Fresh same r → Latest (Entry same hash (hash r % 256)) r (slice_index_or links r None)
 
 -- each bucket's head is its last entry below i
-abbrev pub Headed : (ℕ → ℕ → Bool) → (ℕ → ℕ) → List ℕ → ℕ → Type 0
-Headed same hash heads i = (b : ℕ) → b < 256 → Latest (Entry same hash b) i (slice_index heads b)
+abbrev pub Headed : (ℕ → ℕ → Bool) → (ℕ → ℕ) → List (Option ℕ) → ℕ → Type 0
+Headed same hash heads i = (b : ℕ) → b < 256 → Latest (Entry same hash b) i (slice_index_or heads b None)
 
 -- the first i positions are numbered
 abbrev pub Numbered : (ℕ → ℕ → Bool) → List ℕ → ℕ → Type 0

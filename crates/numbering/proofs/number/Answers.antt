@@ -1,5 +1,7 @@
-use Rattle.std.proofs.Common.{◌+◌, ◌%◌, ◌<◌, length, get_or, set, sym, refl, subst, arith}
+use Rattle.std.proofs.Common.{◌+◌, ◌%◌, ◌<◌, Some, None, length, get_or, set, sym, refl, subst, arith}
 use mathlib.Core.Path.{subst₃}
+use Rattle.std.proofs.lemmas.Nat.{mod_below}
+use Rattle.numbering.specs.Keys.{Latest, Entry}
 use Rattle.numbering.proofs.Chains.{Progress, headed_none, progress_found, progress_fresh}
 use Rattle.numbering.proofs.number.Goals as goal
 use Rattle.numbering.proofs.number.Goals.{in-Some, in-None}
@@ -15,6 +17,15 @@ loop-i-init g c =
       numbered = λ j h. absurd (omega arith);
       rest = λ j h. refl;
     }
+
+pub lookup-requires-clause-headed : goal.lookup-requires-clause-headed
+lookup-requires-clause-headed g c =
+    let bank = c.args.bank.now in
+    let hash = g.B.KeyBank.hashed bank in
+    let i = c.loop-i.i in
+    let b = hash i % 256 in
+    subst (λ h. Latest (Entry (g.B.KeyBank.same bank) hash b) i (get_or c.loop-i.heads (h % 256) None))
+    (sym c.hash.ensures) (c.loop-i.invariant.headed b (mod_below (hash i) 256 (omega arith)))
 
 pub loop-i-preserved : goal.loop-i-preserved
 loop-i-preserved g c =
@@ -37,7 +48,7 @@ loop-i-preserved g c =
           let heads = c.loop-i.heads in
           let links = c.loop-i.links in
           subst₃ (λ f h l. P f h l (i + 1)) (sym w.first-is) (sym w.heads-is) (sym w.links-is)
-          (subst (λ k. P (set c.loop-i.first i i) (set heads (k % 256) (i + 1)) (set links i (get_or heads (k % 256) 0)) (i + 1))
+          (subst (λ k. P (set c.loop-i.first i i) (set heads (k % 256) (Some i)) (set links i (get_or heads (k % 256) None)) (i + 1))
           (sym c.hash.ensures)
           (progress_fresh same hash n eq _ _ _ _ i c.loop-i.invariant hi long room (g.B.KeyBank.alike bank) w.in-None.ensures))
     ]
