@@ -4,3 +4,4 @@ pub mod Recognises
 pub mod Units
 pub mod Determined
 pub mod Reading
+pub mod Items
