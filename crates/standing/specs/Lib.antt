@@ -1,4 +1,4 @@
-pub mod Slots
+pub mod Cursors
 pub mod Refusals
 pub mod Loads
 pub mod Calls
