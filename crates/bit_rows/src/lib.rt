@@ -7,31 +7,30 @@ ghost use Rattle.constraints.specs.Rows.{empty};
 ghost use Rattle.rows.specs.Stores.{Found};
 ghost use Rattle.bit_rows.specs.Bits.{put_bit, cleared, bit_pairs, bit_room, bit_spare};
 
-use rows::{Added, RowStore, StoreFault};
+use rows::{Added, RowStore, StoreFault, checked};
 
 const WORDS: usize = 2048;
 
-#[derive(Drop)]
+#[derive(Debug, Drop)]
 pub struct BitRows {
     words: Vec<u32>,
 }
 
-fn bit_is_set(words: &[u32], v: u16, o: u16) -> bool
-    requires { (v < 256) × (o < 256) }
+fn bit_is_set(words: &[u32], v: u8, o: u8) -> bool
     ensures { result ≡ bit_pairs words.now v o }
 {
     if words.len() < WORDS {
         return false;
     }
-    let word = words[8 * v as usize + o as usize / 32];
+    let word = words[8 * usize::from(v) + usize::from(o / 32)];
     (word >> (o % 32)) % 2 == 1
 }
 
-fn set_bit(words: &mut [u32], v: u16, o: u16)
-    requires { (2048 ≤ length words.old) × ((v < 256) × (o < 256)) }
+fn set_bit(words: &mut [u32], v: u8, o: u8)
+    requires { 2048 ≤ length words.old }
     ensures { words.new ≡ put_bit words.old v o }
 {
-    words[8 * v as usize + o as usize / 32] |= 1 << (o % 32);
+    words[8 * usize::from(v) + usize::from(o / 32)] |= 1 << (o % 32);
 }
 
 // Sets the first 2,048 words to 0.
@@ -39,34 +38,22 @@ fn clear(words: &mut [u32])
     requires { 2048 ≤ length words.old }
     ensures { words.new ≡ cleared 2048 words.old }
 {
-    for i in 0..WORDS {
-        words[i] = 0;
-    }
+    words[..WORDS].fill(0);
 }
 
-fn next_set(words: &[u32], v: u16, start: u16) -> Option<u16>
-    requires { v < 256 }
+fn next_set(words: &[u32], v: u8, start: u16) -> Option<u16>
     ensures { Found (bit_pairs words.now v) start result }
 {
-    for o in start..256 {
-        if bit_is_set(words, v, o) {
-            return Some(o);
-        }
-    }
-    None
+    let start = u8::try_from(start).ok()?;
+    (start..=255)
+        .find(|o| bit_is_set(words, v, *o))
+        .map(u16::from)
 }
 
-fn count_set(words: &[u32], v: u16) -> u16
-    requires { v < 256 }
+fn count_set(words: &[u32], v: u8) -> u16
     ensures { result ≡ count 256 (bit_pairs words.now v) }
 {
-    let mut n = 0;
-    for o in 0..256 {
-        if bit_is_set(words, v, o) {
-            n += 1;
-        }
-    }
-    n
+    (0..=255).filter(|o| bit_is_set(words, v, *o)).count() as u16
 }
 
 impl RowStore for BitRows {
@@ -76,48 +63,41 @@ impl RowStore for BitRows {
 
     ghost spare = { λ s. bit_spare s.words.items };
 
+    #[tactic(auto, using(crate::proofs::Words::bit_within))]
     fn room(&self) -> u32 {
         if self.words.len() < WORDS { 0 } else { 65536 }
     }
 
+    #[tactic(auto, using(crate::proofs::Words::bit_within))]
     fn put(&mut self, v: u16, o: u16) -> Result<Added, StoreFault> {
-        if v > 255 || o > 255 {
-            return Err(StoreFault::Outside);
-        }
+        let row = checked(v)?;
+        let object = checked(o)?;
         if self.words.len() < WORDS {
             return Err(StoreFault::Full {
                 variable: v,
                 object: o,
             });
         }
-        if self.holds(v, o) {
+        if bit_is_set(&self.words, row, object) {
             return Ok(Added::Old);
         }
-        set_bit(&mut self.words, v, o);
+        set_bit(&mut self.words, row, object);
         Ok(Added::New)
     }
 
     fn has(&self, v: u16, o: u16) -> Result<bool, StoreFault> {
-        if v > 255 || o > 255 {
-            return Err(StoreFault::Outside);
-        }
-        Ok(bit_is_set(&self.words, v, o))
+        Ok(bit_is_set(&self.words, checked(v)?, checked(o)?))
     }
 
     fn next(&self, v: u16, start: u16) -> Result<Option<u16>, StoreFault> {
-        if v > 255 {
-            return Err(StoreFault::Outside);
-        }
-        Ok(next_set(&self.words, v, start))
+        Ok(next_set(&self.words, checked(v)?, start))
     }
 
     fn size(&self, v: u16) -> Result<u16, StoreFault> {
-        if v > 255 {
-            return Err(StoreFault::Outside);
-        }
-        Ok(count_set(&self.words, v))
+        Ok(count_set(&self.words, checked(v)?))
     }
 
+    #[tactic(auto, using(crate::proofs::Words::bit_within))]
     fn wipe(&mut self) {
         if self.words.len() >= WORDS {
             clear(&mut self.words);
@@ -126,13 +106,6 @@ impl RowStore for BitRows {
 }
 
 impl BitRows {
-    fn holds(&self, v: u16, o: u16) -> bool
-        requires { (v < 256) × (o < 256) }
-        ensures { result ≡ bit_pairs self.now.words.items v o }
-    {
-        bit_is_set(&self.words, v, o)
-    }
-
     // An empty store in the first 2,048 words; with fewer words it has no room.
     pub fn new(words: Vec<u32>) -> Self
         ensures empties { bit_pairs result.words.items ≡ empty }

@@ -1,39 +1,36 @@
--- Pairs come to the queue at its end and leave it at its head.
-use Rattle.std.proofs.Common.{◌≡◌, ℕ, ◌+◌, ◌*◌, ◌/◌, ◌%◌, ◌<◌, ◌≢◌, ◌⊎◌, length, get_or, set, sym, ap, ◌∙◌, inl, inr, ⊎_elim, arith, get_or-set_other, get_or-set_same}
-use Rattle.std.proofs.lemmas.Bool.{cases_eq}
+-- Pairs come to the queue at its end.
+use Rattle.std.proofs.Common.{◌≡◌, ℕ, ◌+◌, ◌<◌, ◌⊎◌, [], ◌∷◌, ◌++◌, length, get_or, sym, ap, ◌∙◌, inl, inr, ⊎_elim, arith}
+use Rattle.std.proofs.lemmas.Bool.{cases_lt}
+use Rattle.std.proofs.lemmas.List.{get_or_append_left, length-append}
+use Rattle.std.proofs.Math.Seq.{get_or-append_seam}
+use Rattle.difference.specs.declared.pending.Pair.{Pair}
 use Rattle.difference.specs.declared.pending.Pending.{Pending}
-use Rattle.difference.specs.Queue.{Pends, Pushed}
+use Rattle.difference.specs.Queue.{tail, pair_at, Pends, Pushed}
 
-high : (v o : ℕ) → o < 256 → (256 * v + o) / 256 ≡ v
-high v o lt = omega arith
-
-low : (v o : ℕ) → o < 256 → (256 * v + o) % 256 ≡ o
-low v o lt = omega arith
-
-pub pushed : (q q' : Pending) (v o : ℕ) → o < 256 → q.tail < length q.items → q'.items ≡ set q.items q.tail (256 * v + o)
-    → q'.head ≡ q.head → q'.tail ≡ q.tail + 1 → Pushed q q' v o
-pushed q q' v o o_in room items head tail =
-    record { stays = stays; comes = comes; only = only; head = head; tail = tail }
+pub pushed : (q q' : Pending) (pair : Pair) → q'.pairs.items ≡ q.pairs.items ++ pair ∷ [] → q'.head ≡ q.head → Pushed q q' pair
+pushed q q' pair items head = record { stays = stays; comes = comes; only = only; head = head; tail = longer }
   where
-    there : (i : ℕ) → i ≢ q.tail → get_or q'.items i 0 ≡ get_or q.items i 0
-    there i ne = ap (λ l. get_or l i 0) items ∙ get_or-set_other q.items q.tail i (256 * v + o) 0 ne
+    longer : tail q' ≡ tail q + 1
+    longer = ap length items ∙ length-append q.pairs.items (pair ∷ [])
 
-    here : get_or q'.items q.tail 0 ≡ 256 * v + o
-    here = ap (λ l. get_or l q.tail 0) items ∙ get_or-set_same q.items q.tail (256 * v + o) 0 room
+    there : (i : ℕ) → i < tail q → pair_at q' i ≡ pair_at q i
+    there i lt = ap (λ l. get_or l i (record { variable = 0; object = 0 })) items ∙ get_or_append_left q.pairs.items (pair ∷ []) (record { variable = 0; object = 0 }) i lt
+
+    here : pair_at q' (tail q) ≡ pair
+    here = ap (λ l. get_or l (tail q) (record { variable = 0; object = 0 })) items ∙ get_or-append_seam q.pairs.items pair [] (record { variable = 0; object = 0 })
 
     stays : (x y : ℕ) → Pends q x y → Pends q' x y
     stays x y (i, from, below, is_x, is_y) =
-        let ne : i ≢ q.tail = omega arith in
-        (i, omega arith, omega arith, ap (λ n. n / 256) (there i ne) ∙ is_x, ap (λ n. n % 256) (there i ne) ∙ is_y)
+        (i, omega arith, omega (arith, longer), ap (λ p. p.variable) (there i below) ∙ is_x, ap (λ p. p.object) (there i below) ∙ is_y)
 
-    comes : Pends q' v o
-    comes = (q.tail, omega (arith, q.ordered), omega arith, ap (λ n. n / 256) here ∙ high v o o_in, ap (λ n. n % 256) here ∙ low v o o_in)
+    comes : Pends q' pair.variable pair.object
+    comes = (tail q, omega (arith, q.ordered), omega (arith, longer), ap (λ p. p.variable) here, ap (λ p. p.object) here)
 
-    only : (x y : ℕ) → Pends q' x y → Pends q x y ⊎ ((x ≡ v) × (y ≡ o))
+    only : (x y : ℕ) → Pends q' x y → Pends q x y ⊎ ((x ≡ pair.variable) × (y ≡ pair.object))
     only x y (i, from, below, is_x, is_y) = ⊎_elim
-        (λ e.
-        let at_x : get_or q'.items i 0 / 256 ≡ v = ap (λ k. get_or q'.items k 0 / 256) e ∙ ap (λ n. n / 256) here ∙ high v o o_in in
-        let at_y : get_or q'.items i 0 % 256 ≡ o = ap (λ k. get_or q'.items k 0 % 256) e ∙ ap (λ n. n % 256) here ∙ low v o o_in in
-        inr (sym is_x ∙ at_x, sym is_y ∙ at_y))
-        (λ ne. inl (i, omega arith, omega (arith, ne), sym (ap (λ n. n / 256) (there i ne)) ∙ is_x, sym (ap (λ n. n % 256) (there i ne)) ∙ is_y))
-        (cases_eq i q.tail)
+        (λ lt. inl (i, omega arith, lt, sym (ap (λ p. p.variable) (there i lt)) ∙ is_x, sym (ap (λ p. p.object) (there i lt)) ∙ is_y))
+        (λ ge.
+        let e : i ≡ tail q = omega (arith, longer) in
+        let is : pair_at q' i ≡ pair = ap (pair_at q') e ∙ here in
+        inr (sym is_x ∙ ap (λ p. p.variable) is, sym is_y ∙ ap (λ p. p.object) is))
+        (cases_lt i (tail q))

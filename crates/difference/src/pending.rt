@@ -2,14 +2,23 @@
 mod calls;
 
 ghost use Rattle.std.specs.Prelude.{◌≤◌};
+ghost use Rattle.arrayvec.specs.ArrayVec.{array_vec_len};
+
+use arrayvec::ArrayVec;
+
+// A variable, and an object of its row.
+#[derive(Clone, Copy, PartialEq, Eq, Debug, Default)]
+pub struct Pair {
+    pub variable: u8,
+    pub object: u8,
+}
 
 #[derive(Drop)]
 pub struct Pending {
-    // each pair as 256 · variable + object
-    items: [u16; 65536],
-    // the items from `head` up to `tail` wait
+    // all pairs that came since the queue was made or cleared
+    pairs: ArrayVec<Pair, 65536>,
+    // the pairs from `head` on wait
     head: usize,
-    tail: usize,
-    ghost ordered: { head ≤ tail },
-    ghost inside: { tail ≤ 65536 },
+    ghost ordered: { head ≤ array_vec_len pairs },
+    ghost inside: { array_vec_len pairs ≤ 65536 },
 }

@@ -5,22 +5,20 @@ ghost use Rattle.constraints.specs.Constraint.{length_of, constraint, Meets, Sol
 ghost use Rattle.constraints.specs.Lists.{system_of};
 ghost use Rattle.constraints.specs.declared.constraint.Constraint.TheVariants.{Load as load, Store as store};
 ghost use Rattle.walks.specs.Rules.{Below};
-ghost use Rattle.walks.specs.Grown.{Grown};
-ghost use Rattle.difference.specs.Handed.{LoadBase, LoadValue, StoreBase, StoreValue, Handed};
+ghost use Rattle.walks.specs.Grown.{Grown, Adds};
+ghost use Rattle.difference.specs.Handed.{LoadBase, LoadValue, StoreBase, PutAt, PutAtEach, StoreValue, Handed};
 
+use crate::pending::Pair;
 use constraints::{Constraint, ConstraintList};
 use rows::StoreFault;
-use walks::{Grower, load_from, store_into};
+use walks::{Grower, for_each_object, load_from, slot, store_into};
 
 // Whether row v holds o.
 fn holds<G: Grower>(g: &G, v: u16, o: u16) -> Result<bool, StoreFault>
     requires variable { v < 256 }
     ensures { elim result [ Ok b ↦ b ≡ G.rows g.now v o | Err e ↦ ⊥ ] }
 {
-    match g.next(v, o)? {
-        Some(x) => Ok(x == o),
-        None => Ok(false),
-    }
+    Ok(g.next(v, o)? == Some(o))
 }
 
 // Where the pair is (q, o): row o + k into row p.
@@ -30,14 +28,13 @@ fn load_base<G: Grower>(
     p: u16,
     q: u16,
     k: u16,
-    v: u16,
-    o: u16,
+    pair: Pair,
 ) -> Result<(), StoreFault>
     requires target { p < 256 }
-    ensures { Grown G.rows G.limit (G.notes (system_of list.now)) (λ R. LoadBase (system_of list.now).blocks p q k v o (pairs R) (pairs R)) g.old g.new (LoadBase (system_of list.now).blocks p q k v o (pairs (G.rows g.old)) (pairs (G.rows g.new))) result }
+    ensures { Adds G.rows G.limit (G.notes (system_of list.now)) (LoadBase (system_of list.now).blocks p q k pair.variable pair.object) g.old g.new result }
 {
-    if q == v {
-        load_from(list, g, p, o, k)
+    if q == u16::from(pair.variable) {
+        load_from(list, g, p, u16::from(pair.object), k)
     } else {
         Ok(())
     }
@@ -50,46 +47,41 @@ fn load_value<G: Grower>(
     p: u16,
     q: u16,
     k: u16,
-    v: u16,
-    o: u16,
+    pair: Pair,
 ) -> Result<(), StoreFault>
     requires target { p < 256 }
     requires source { q < 256 }
-    requires object { o < 256 }
-    ensures { Grown G.rows G.limit (G.notes (system_of list.now)) (λ R. LoadValue (system_of list.now).blocks p q k v o (pairs R) (pairs R)) g.old g.new (LoadValue (system_of list.now).blocks p q k v o (pairs (G.rows g.old)) (pairs (G.rows g.new))) result }
+    ensures { Adds G.rows G.limit (G.notes (system_of list.now)) (LoadValue (system_of list.now).blocks p q k pair.variable pair.object) g.old g.new result }
 {
-    if k > v {
+    let Some(y) = u16::from(pair.variable).checked_sub(k) else {
         return Ok(());
-    }
-    let y = v - k;
-    if k >= u16::from(list.length_of(y as usize)) {
+    };
+    if slot(list, y, k).is_none() {
         return Ok(());
     }
     if holds(g, q, y)? {
-        g.add(list, p, o)
+        g.add(list, p, u16::from(pair.object))
     } else {
         Ok(())
     }
 }
 
-// Hands the pair (v, o) on by a load of q at k into p.
+// Hands the pair on by a load of q at k into p.
 fn spread_load<G: Grower>(
     list: &ConstraintList,
     g: &mut G,
     p: u16,
     q: u16,
     k: u16,
-    v: u16,
-    o: u16,
+    pair: Pair,
 ) -> Result<(), StoreFault>
     requires target { p < 256 }
     requires source { q < 256 }
-    requires object { o < 256 }
-    requires held { T (G.rows g.old v o) }
-    ensures { Grown G.rows G.limit (G.notes (system_of list.now)) (λ R. Meets (system_of list.now).blocks (load p q k) (pairs R)) g.old g.new (Handed (system_of list.now).blocks (load p q k) v o (pairs (G.rows g.old)) (pairs (G.rows g.new))) result }
+    requires held { T (G.rows g.old pair.variable pair.object) }
+    ensures { Grown G.rows G.limit (G.notes (system_of list.now)) (λ R. Meets (system_of list.now).blocks (load p q k) (pairs R)) g.old g.new (Handed (system_of list.now).blocks (load p q k) pair.variable pair.object (pairs (G.rows g.old)) (pairs (G.rows g.new))) result }
 {
-    load_base(list, g, p, q, k, v, o)?;
-    load_value(list, g, p, q, k, v, o)
+    load_base(list, g, p, q, k, pair)?;
+    load_value(list, g, p, q, k, pair)
 }
 
 // Where the pair is (p, o): row q into row o + k.
@@ -99,55 +91,49 @@ fn store_base<G: Grower>(
     p: u16,
     k: u16,
     q: u16,
-    v: u16,
-    o: u16,
+    pair: Pair,
 ) -> Result<(), StoreFault>
     requires source { q < 256 }
-    ensures { Grown G.rows G.limit (G.notes (system_of list.now)) (λ R. StoreBase (system_of list.now).blocks p k q v o (pairs R) (pairs R)) g.old g.new (StoreBase (system_of list.now).blocks p k q v o (pairs (G.rows g.old)) (pairs (G.rows g.new))) result }
+    ensures { Adds G.rows G.limit (G.notes (system_of list.now)) (StoreBase (system_of list.now).blocks p k q pair.variable pair.object) g.old g.new result }
 {
-    if p == v {
-        store_into(list, g, o, k, q)
+    if p == u16::from(pair.variable) {
+        store_into(list, g, u16::from(pair.object), k, q)
     } else {
         Ok(())
     }
 }
 
-// Puts o into row y + k, where the block of y is longer than k.
+// Puts the object into row y + k, where the block of y is longer than k.
 fn put_at<G: Grower>(
     list: &ConstraintList,
     g: &mut G,
     y: u16,
     k: u16,
-    o: u16,
+    object: u8,
 ) -> Result<(), StoreFault>
-    requires object { o < 256 }
-    ensures { Grown G.rows G.limit (G.notes (system_of list.now)) (λ R. (k < length_of (system_of list.now).blocks y → T (R (y + k) o))) g.old g.new (k < length_of (system_of list.now).blocks y → T (G.rows g.new (y + k) o)) result }
+    ensures { Adds G.rows G.limit (G.notes (system_of list.now)) (PutAt (system_of list.now).blocks y k object) g.old g.new result }
 {
-    if k < u16::from(list.length_of(y as usize)) {
-        g.add(list, y + k, o)
-    } else {
-        Ok(())
+    match slot(list, y, k) {
+        Some(row) => g.add(list, row, u16::from(object)),
+        None => Ok(()),
     }
 }
 
-// Puts o into row y + k for each y in row p whose block is longer than k.
+// Puts the object into row y + k for each y in row p whose block is longer than k.
 fn store_each<G: Grower>(
     list: &ConstraintList,
     g: &mut G,
     p: u16,
     k: u16,
-    o: u16,
+    object: u8,
 ) -> Result<(), StoreFault>
     requires target { p < 256 }
-    requires object { o < 256 }
-    ensures { Grown G.rows G.limit (G.notes (system_of list.now)) (λ R. ((y : ℕ) → T (R p y) → k < length_of (system_of list.now).blocks y → T (R (y + k) o))) g.old g.new ((y : ℕ) → T (G.rows g.old p y) → k < length_of (system_of list.now).blocks y → T (G.rows g.new (y + k) o)) result }
+    ensures { Adds G.rows G.limit (G.notes (system_of list.now)) (PutAtEach (system_of list.now).blocks p k object) g.old g.new result }
 {
-    let mut at = 0;
-    while let Some(y) = g.next(p, at)? {
-        put_at(list, g, y, k, o)?;
-        at = y + 1;
-    }
-    Ok(())
+    let visit = |g: &mut G, y: u16|
+        ensures { Adds G.rows G.limit (G.notes (system_of list.entry.now)) (PutAt (system_of list.entry.now).blocks y k object) g.old g.new result }
+    { put_at(list, g, y, k, object) };
+    for_each_object(g, p, visit)
 }
 
 // Where the pair is (q, o): o into row y + k for each y in row p.
@@ -157,38 +143,34 @@ fn store_value<G: Grower>(
     p: u16,
     k: u16,
     q: u16,
-    v: u16,
-    o: u16,
+    pair: Pair,
 ) -> Result<(), StoreFault>
     requires target { p < 256 }
-    requires object { o < 256 }
-    ensures { Grown G.rows G.limit (G.notes (system_of list.now)) (λ R. StoreValue (system_of list.now).blocks p k q v o (pairs R) (pairs R)) g.old g.new (StoreValue (system_of list.now).blocks p k q v o (pairs (G.rows g.old)) (pairs (G.rows g.new))) result }
+    ensures { Adds G.rows G.limit (G.notes (system_of list.now)) (StoreValue (system_of list.now).blocks p k q pair.variable pair.object) g.old g.new result }
 {
-    if q == v {
-        store_each(list, g, p, k, o)
+    if q == u16::from(pair.variable) {
+        store_each(list, g, p, k, pair.object)
     } else {
         Ok(())
     }
 }
 
-// Hands the pair (v, o) on by a store of q through p at k.
+// Hands the pair on by a store of q through p at k.
 fn spread_store<G: Grower>(
     list: &ConstraintList,
     g: &mut G,
     p: u16,
     k: u16,
     q: u16,
-    v: u16,
-    o: u16,
+    pair: Pair,
 ) -> Result<(), StoreFault>
     requires target { p < 256 }
     requires source { q < 256 }
-    requires object { o < 256 }
-    requires held { T (G.rows g.old v o) }
-    ensures { Grown G.rows G.limit (G.notes (system_of list.now)) (λ R. Meets (system_of list.now).blocks (store p k q) (pairs R)) g.old g.new (Handed (system_of list.now).blocks (store p k q) v o (pairs (G.rows g.old)) (pairs (G.rows g.new))) result }
+    requires held { T (G.rows g.old pair.variable pair.object) }
+    ensures { Grown G.rows G.limit (G.notes (system_of list.now)) (λ R. Meets (system_of list.now).blocks (store p k q) (pairs R)) g.old g.new (Handed (system_of list.now).blocks (store p k q) pair.variable pair.object (pairs (G.rows g.old)) (pairs (G.rows g.new))) result }
 {
-    store_base(list, g, p, k, q, v, o)?;
-    store_value(list, g, p, k, q, v, o)
+    store_base(list, g, p, k, q, pair)?;
+    store_value(list, g, p, k, q, pair)
 }
 
 // Where the pair is (q, o): o into row p.
@@ -197,61 +179,58 @@ fn spread_copy<G: Grower>(
     g: &mut G,
     p: u16,
     q: u16,
-    v: u16,
-    o: u16,
+    pair: Pair,
 ) -> Result<(), StoreFault>
     requires target { p < 256 }
-    requires object { o < 256 }
-    ensures { Grown G.rows G.limit (G.notes (system_of list.now)) (λ R. (q ≡ v → T (R p o))) g.old g.new (q ≡ v → T (G.rows g.new p o)) result }
+    ensures { Adds G.rows G.limit (G.notes (system_of list.now)) (λ P R. (q ≡ pair.variable → R p pair.object)) g.old g.new result }
 {
-    if q == v { g.add(list, p, o) } else { Ok(()) }
+    if q == u16::from(pair.variable) {
+        g.add(list, p, u16::from(pair.object))
+    } else {
+        Ok(())
+    }
 }
 
-// Hands the pair (v, o) on by a constraint. An address asks nothing of a pair.
+// Hands the pair on by a constraint. An address asks nothing of a pair.
 pub fn spread<G: Grower>(
     list: &ConstraintList,
     g: &mut G,
     c: Constraint,
-    v: u16,
-    o: u16,
+    pair: Pair,
 ) -> Result<(), StoreFault>
     requires known { Below 256 c }
-    requires object { o < 256 }
-    requires held { T (G.rows g.old v o) }
-    ensures { Grown G.rows G.limit (G.notes (system_of list.now)) (λ R. Meets (system_of list.now).blocks c (pairs R)) g.old g.new (Handed (system_of list.now).blocks c v o (pairs (G.rows g.old)) (pairs (G.rows g.new))) result }
+    requires held { T (G.rows g.old pair.variable pair.object) }
+    ensures { Grown G.rows G.limit (G.notes (system_of list.now)) (λ R. Meets (system_of list.now).blocks c (pairs R)) g.old g.new (Handed (system_of list.now).blocks c pair.variable pair.object (pairs (G.rows g.old)) (pairs (G.rows g.new))) result }
 {
     match c {
         Constraint::Address { .. } => Ok(()),
-        Constraint::Copy { left, right } => spread_copy(list, g, left, right, v, o),
+        Constraint::Copy { left, right } => spread_copy(list, g, left, right, pair),
         Constraint::Load {
             left,
             right,
             offset,
-        } => spread_load(list, g, left, right, offset, v, o),
+        } => spread_load(list, g, left, right, offset, pair),
         Constraint::Store {
             left,
             offset,
             right,
-        } => spread_store(list, g, left, offset, right, v, o),
+        } => spread_store(list, g, left, offset, right, pair),
     }
 }
 
-// Hands the pair (v, o) on by each of the first n words.
+// Hands the pair on by each of the first n words.
 pub fn hand_on<G: Grower>(
     list: &ConstraintList,
     n: usize,
     g: &mut G,
-    v: u16,
-    o: u16,
+    pair: Pair,
 ) -> Result<(), StoreFault>
     requires short { n ≤ length (system_of list.now).words }
-    requires object { o < 256 }
-    requires held { T (G.rows g.old v o) }
-    ensures { Grown G.rows G.limit (G.notes (system_of list.now)) (Solves (first n (system_of list.now))) g.old g.new ((j : ℕ) → j < n → Handed (system_of list.now).blocks (constraint (system_of list.now) j) v o (pairs (G.rows g.old)) (pairs (G.rows g.new))) result }
+    requires held { T (G.rows g.old pair.variable pair.object) }
+    ensures { Grown G.rows G.limit (G.notes (system_of list.now)) (Solves (first n (system_of list.now))) g.old g.new ((j : ℕ) → j < n → Handed (system_of list.now).blocks (constraint (system_of list.now) j) pair.variable pair.object (pairs (G.rows g.old)) (pairs (G.rows g.new))) result }
 {
-    let words = list.words();
-    for j in 0..n {
-        spread(list, g, Constraint::decode(words[j]), v, o)?;
+    for word in &list.words()[..n] {
+        spread(list, g, Constraint::decode(*word), pair)?;
     }
     Ok(())
 }

@@ -17,7 +17,7 @@ pub struct Overflow {
     pub store: StoreFault,
 }
 
-#[derive(Clone, Copy, PartialEq, Eq)]
+#[derive(Clone, Copy, PartialEq, Eq, Debug)]
 pub enum EngineFault {
     // a block, a word or a settle while settled
     Settled,

@@ -5,6 +5,7 @@ ghost use Rattle.piles.specs.Choices.{chosen};
 use crate::Choice;
 use rows::{Added, RowStore, StoreFault};
 
+// Stays: an arm for each store in each call, since the two have unlike types and no closure takes both.
 impl<A: RowStore, B: RowStore> RowStore for Choice<A, B> {
     ghost pairs = { chosen A.RowStore.pairs B.RowStore.pairs };
 

@@ -1,8 +1,9 @@
 // Row stores: sets of pairs of a variable and an object, within a room that is fixed at making.
 #![tactic(auto)]
 
-ghost use Rattle.std.specs.Prelude.{◌≡◌, ℕ, List};
+ghost use Rattle.std.specs.Prelude.{◌≡◌, ℕ, List, cond, Ok, Err, nat_lt};
 ghost use Rattle.constraints.specs.Rows.{Rows, empty};
+ghost use Rattle.rows.specs.declared.StoreFault.TheVariants.{Outside};
 ghost use Rattle.rows.specs.Stores.{refusal, Within, PutOf, HasOf, NextOf, SizeOf};
 
 // Whether a pair that was put is new to its store.
@@ -30,6 +31,13 @@ impl StoreFault {
             StoreFault::Full { .. } => 6,
         }
     }
+}
+
+// A variable or an object that a store can hold.
+pub fn checked(number: u16) -> Result<u8, StoreFault>
+    ensures { result ≡ cond (nat_lt number 256) (Ok number) (Err Outside) }
+{
+    u8::try_from(number).map_err(|_| StoreFault::Outside)
 }
 
 // A store means a set of pairs, of a variable and an object below 256 each, and a room: the number of pairs that it can hold.

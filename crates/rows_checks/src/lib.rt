@@ -16,58 +16,54 @@ pub enum Operation {
     Size(u16),
 }
 
+// What a store answers to an operation that it does not refuse.
 #[derive(Clone, Copy, PartialEq, Eq, Debug)]
-pub enum Reply {
+pub enum Answer {
     Wiped,
     Room(u32),
     Put(Added),
     Has(bool),
     Next(Option<u16>),
     Size(u16),
-    Refused(StoreFault),
 }
 
 // One operation.
-pub fn run<S: RowStore>(store: &mut S, operation: Operation) -> Reply
+pub fn run<S: RowStore>(store: &mut S, operation: Operation) -> Result<Answer, StoreFault>
     ensures reply { result ≡ reply_of operation (S.room store.old) (S.pairs store.old) }
     ensures after { S.pairs store.new ≡ pairs_after operation (S.room store.old) (S.pairs store.old) }
     ensures fixed { S.room store.new ≡ S.room store.old }
 {
-    match operation {
+    Ok(match operation {
         Operation::Wipe => {
             store.wipe();
-            Reply::Wiped
+            Answer::Wiped
         }
-        Operation::Room => Reply::Room(store.room()),
-        Operation::Put(v, o) => match store.put(v, o) {
-            Ok(added) => Reply::Put(added),
-            Err(fault) => Reply::Refused(fault),
-        },
-        Operation::Has(v, o) => match store.has(v, o) {
-            Ok(held) => Reply::Has(held),
-            Err(fault) => Reply::Refused(fault),
-        },
-        Operation::Next(v, start) => match store.next(v, start) {
-            Ok(found) => Reply::Next(found),
-            Err(fault) => Reply::Refused(fault),
-        },
-        Operation::Size(v) => match store.size(v) {
-            Ok(count) => Reply::Size(count),
-            Err(fault) => Reply::Refused(fault),
-        },
-    }
+        Operation::Room => Answer::Room(store.room()),
+        Operation::Put(v, o) => Answer::Put(store.put(v, o)?),
+        Operation::Has(v, o) => Answer::Has(store.has(v, o)?),
+        Operation::Next(v, start) => Answer::Next(store.next(v, start)?),
+        Operation::Size(v) => Answer::Size(store.size(v)?),
+    })
+}
+
+// Whether two stores reply alike to one operation. Stores that mean the same do, and still mean the same.
+fn alike_once<S: RowStore, T: RowStore>(one: &mut S, other: &mut T, operation: Operation) -> bool
+    ensures replies { S.RowStore.pairs one.old ≡ T.RowStore.pairs other.old → S.RowStore.room one.old ≡ T.RowStore.room other.old → result ≡ true }
+    ensures one { S.RowStore.pairs one.new ≡ pairs_after operation (S.RowStore.room one.old) (S.RowStore.pairs one.old) }
+    ensures one_fixed { S.RowStore.room one.new ≡ S.RowStore.room one.old }
+    ensures other { T.RowStore.pairs other.new ≡ pairs_after operation (T.RowStore.room other.old) (T.RowStore.pairs other.old) }
+    ensures other_fixed { T.RowStore.room other.new ≡ T.RowStore.room other.old }
+{
+    run(one, operation) == run(other, operation)
 }
 
 // Whether two stores reply alike to a run of operations. Stores that mean the same always do.
 pub fn alike<S: RowStore, T: RowStore>(one: &mut S, other: &mut T, operations: &[Operation]) -> bool
     ensures { S.RowStore.pairs one.old ≡ T.RowStore.pairs other.old → S.RowStore.room one.old ≡ T.RowStore.room other.old → result ≡ true }
 {
-    for operation in operations {
-        if run(one, *operation) != run(other, *operation) {
-            return false;
-        }
-    }
-    true
+    operations
+        .iter()
+        .all(|operation| alike_once(one, other, *operation))
 }
 
 #[cfg(test)]

@@ -4,3 +4,4 @@ pub mod Slots
 pub mod Fronts
 pub mod Puts
 pub mod Rules
+pub mod Visits

@@ -1,6 +1,6 @@
 -- How rows grow, whatever is noted of new pairs.
 use Rattle.std.specs.Prelude.{◌≡◌, ℕ, ◌<◌, ◌≤◌, false, T, Ok, Err, Result}
-use Rattle.constraints.specs.Rows.{Rows, ◌⊑◌, total}
+use Rattle.constraints.specs.Rows.{Rows, Relation, ◌⊑◌, pairs, total}
 use Rattle.rows.specs.declared.StoreFault.{StoreFault}
 use Rattle.rows.specs.declared.StoreFault.TheVariants.{Outside, Full}
 
@@ -25,6 +25,10 @@ pub record Grows {G : Type 0} (rows : G → Rows) (limit : G → ℕ) (notes : G
 pub record Grown {G X : Type 0} (rows : G → Rows) (limit : G → ℕ) (notes : G → G → Type 0) (C : Rows → Type 0) (s t : G) (D : Type 0) (r : Result X StoreFault) : Type 0 where
   pub grows : Grows rows limit notes C s t
   pub ends : Ends C (rows s) (rows t) (limit t) D r
+
+-- a walk that asks A: it adds only what all rows have that meet A, and unless it is refused, what A asks from the rows as found is there
+abbrev pub Adds : {G X : Type 0} → (G → Rows) → (G → ℕ) → (G → G → Type 0) → (Relation → Relation → Type 0) → G → G → Result X StoreFault → Type 0
+Adds rows limit notes A s t r = Grown rows limit notes (λ R. A (pairs R) (pairs R)) s t (A (pairs (rows s)) (pairs (rows t))) r
 
 -- no notes
 abbrev pub Any : {G : Type 0} → G → G → Type 0

@@ -9,6 +9,13 @@ use Rattle.constraints.specs.declared.constraint.Constraint.TheVariants.{Address
 abbrev pub Includes : ℕ → ℕ → Relation → Relation → Type 0
 Includes p q P R = (o : ℕ) → P q o → R p o
 
+-- what a load or a store asks at an object o of the row through which it goes
+abbrev pub LoadFrom : List ℕ → ℕ → ℕ → ℕ → Relation → Relation → Type 0
+LoadFrom blocks p o k P R = k < length_of blocks o → Includes p (o + k) P R
+
+abbrev pub StoreInto : List ℕ → ℕ → ℕ → ℕ → Relation → Relation → Type 0
+StoreInto blocks o k q P R = k < length_of blocks o → Includes (o + k) q P R
+
 -- what the rule asks from the rows P is in the rows R; rows meet the rule where it holds from them to themselves
 abbrev pub Rule : List ℕ → Constraint → Relation → Relation → Type 0
 Rule blocks (address p o) P R = R p o

@@ -1,14 +1,15 @@
 // The walk of each kind of constraint, proved once for every solver.
 #![tactic(auto)]
 
-ghost use Rattle.std.specs.Prelude.{◌≡◌, ℕ, ◌+◌, ◌<◌, T};
+ghost use Rattle.std.specs.Prelude.{◌≡◌, ℕ, ◌+◌, ◌<◌, ◌≤◌, MatchOption};
 ghost use Rattle.constraints.specs.Rows.{Rows, pairs};
 ghost use Rattle.constraints.specs.Constraint.{System, length_of, Meets};
 ghost use Rattle.constraints.specs.declared.constraint.Constraint.TheVariants.{Load as load, Store as store};
 ghost use Rattle.constraints.specs.Lists.{system_of};
 ghost use Rattle.rows.specs.Stores.{NextOf};
-ghost use Rattle.walks.specs.Rules.{Includes, Rule, Below};
-ghost use Rattle.walks.specs.Grown.{Grown};
+ghost use Rattle.walks.specs.Rules.{Includes, LoadFrom, StoreInto, Rule, Below};
+ghost use Rattle.walks.specs.Grown.{Grown, Adds};
+ghost use Rattle.walks.specs.Visits.{Visits, Visited};
 
 use constraints::{Constraint, ConstraintList};
 use rows::StoreFault;
@@ -27,7 +28,7 @@ pub trait Grower {
     fn add(&mut self, list: &ConstraintList, v: u16, o: u16) -> Result<(), StoreFault>
         requires variable { v < 256 }
         requires object { o < 256 }
-        ensures { Grown rows limit (notes (system_of list.now)) (λ R. T (R v o)) self.old self.new (T (rows self.new v o)) result };
+        ensures { Adds rows limit (notes (system_of list.now)) (λ P R. R v o) self.old self.new result };
 
     // The smallest object of row v at or above `from`.
     fn next(&self, v: u16, from: u16) -> Result<Option<u16>, StoreFault>
@@ -36,6 +37,24 @@ pub trait Grower {
     ghost still: { (sys : System) (s : Self) → notes sys s s };
 
     ghost onward: { (sys : System) (s t u : Self) → notes sys s t → notes sys t u → notes sys s u };
+}
+
+// Visits the objects of row v in their order, those among them that a visit adds further on.
+pub fn for_each_object<G: Grower, F: Fn(&mut G, u16) -> Result<(), StoreFault>>(
+    g: &mut G,
+    v: u16,
+    visit: F,
+) -> Result<(), StoreFault>
+    requires row { v < 256 }
+    requires callable { (h : _) (o : ℕ) → o < 256 → F.pre visit h o }
+    ensures { Visited G.rows (Visits F.Fn visit) v 0 g.old g.new result }
+{
+    let mut at = 0;
+    while let Some(o) = g.next(v, at)? {
+        visit(g, o)?;
+        at = o + 1;
+    }
+    Ok(())
 }
 
 // Puts every object of row q into row p: the walk of a copy.
@@ -47,14 +66,25 @@ pub fn copy_row<G: Grower>(
 ) -> Result<(), StoreFault>
     requires target { p < 256 }
     requires source { q < 256 }
-    ensures { Grown G.rows G.limit (G.notes (system_of list.now)) (λ R. Includes p q (pairs R) (pairs R)) g.old g.new (Includes p q (pairs (G.rows g.old)) (pairs (G.rows g.new))) result }
+    ensures { Adds G.rows G.limit (G.notes (system_of list.now)) (Includes p q) g.old g.new result }
 {
-    let mut at = 0;
-    while let Some(o) = g.next(q, at)? {
-        g.add(list, p, o)?;
-        at = o + 1;
+    let visit = |g: &mut G, o: u16|
+        requires target { p < 256 }
+        requires object { o < 256 }
+        ensures { Adds G.rows G.limit (G.notes (system_of list.entry.now)) (λ P R. R p o) g.old g.new result }
+    { g.add(list, p, o) };
+    for_each_object(g, q, visit)
+}
+
+// The variable at offset k of the block of o, if that is longer than k.
+pub fn slot(list: &ConstraintList, o: u16, k: u16) -> Option<u16>
+    ensures { MatchOption result (length_of (system_of list.now).blocks o ≤ k) (λ v. (v ≡ o + k) × (k < length_of (system_of list.now).blocks o) × (v < 256)) }
+{
+    if k < u16::from(list.length_of(o as usize)) {
+        Some(o + k)
+    } else {
+        None
     }
-    Ok(())
 }
 
 // Puts row o + k into row p, where the block of o is longer than k.
@@ -66,12 +96,11 @@ pub fn load_from<G: Grower>(
     k: u16,
 ) -> Result<(), StoreFault>
     requires target { p < 256 }
-    ensures { Grown G.rows G.limit (G.notes (system_of list.now)) (λ R. (k < length_of (system_of list.now).blocks o → Includes p (o + k) (pairs R) (pairs R))) g.old g.new (k < length_of (system_of list.now).blocks o → Includes p (o + k) (pairs (G.rows g.old)) (pairs (G.rows g.new))) result }
+    ensures { Adds G.rows G.limit (G.notes (system_of list.now)) (LoadFrom (system_of list.now).blocks p o k) g.old g.new result }
 {
-    if k < u16::from(list.length_of(o as usize)) {
-        copy_row(list, g, p, o + k)
-    } else {
-        Ok(())
+    match slot(list, o, k) {
+        Some(row) => copy_row(list, g, p, row),
+        None => Ok(()),
     }
 }
 
@@ -84,12 +113,11 @@ pub fn store_into<G: Grower>(
     q: u16,
 ) -> Result<(), StoreFault>
     requires source { q < 256 }
-    ensures { Grown G.rows G.limit (G.notes (system_of list.now)) (λ R. (k < length_of (system_of list.now).blocks o → Includes (o + k) q (pairs R) (pairs R))) g.old g.new (k < length_of (system_of list.now).blocks o → Includes (o + k) q (pairs (G.rows g.old)) (pairs (G.rows g.new))) result }
+    ensures { Adds G.rows G.limit (G.notes (system_of list.now)) (StoreInto (system_of list.now).blocks o k q) g.old g.new result }
 {
-    if k < u16::from(list.length_of(o as usize)) {
-        copy_row(list, g, o + k, q)
-    } else {
-        Ok(())
+    match slot(list, o, k) {
+        Some(row) => copy_row(list, g, row, q),
+        None => Ok(()),
     }
 }
 
@@ -103,14 +131,13 @@ pub fn walk_load<G: Grower>(
 ) -> Result<(), StoreFault>
     requires target { p < 256 }
     requires source { q < 256 }
-    ensures { Grown G.rows G.limit (G.notes (system_of list.now)) (λ R. Meets (system_of list.now).blocks (load p q k) (pairs R)) g.old g.new (Rule (system_of list.now).blocks (load p q k) (pairs (G.rows g.old)) (pairs (G.rows g.new))) result }
+    ensures { Adds G.rows G.limit (G.notes (system_of list.now)) (Rule (system_of list.now).blocks (load p q k)) g.old g.new result }
 {
-    let mut at = 0;
-    while let Some(o) = g.next(q, at)? {
-        load_from(list, g, p, o, k)?;
-        at = o + 1;
-    }
-    Ok(())
+    let visit = |g: &mut G, o: u16|
+        requires { p < 256 }
+        ensures { Adds G.rows G.limit (G.notes (system_of list.entry.now)) (LoadFrom (system_of list.entry.now).blocks p o k) g.old g.new result }
+    { load_from(list, g, p, o, k) };
+    for_each_object(g, q, visit)
 }
 
 // Walks a store of q through p at k.
@@ -123,14 +150,13 @@ pub fn walk_store<G: Grower>(
 ) -> Result<(), StoreFault>
     requires target { p < 256 }
     requires source { q < 256 }
-    ensures { Grown G.rows G.limit (G.notes (system_of list.now)) (λ R. Meets (system_of list.now).blocks (store p k q) (pairs R)) g.old g.new (Rule (system_of list.now).blocks (store p k q) (pairs (G.rows g.old)) (pairs (G.rows g.new))) result }
+    ensures { Adds G.rows G.limit (G.notes (system_of list.now)) (Rule (system_of list.now).blocks (store p k q)) g.old g.new result }
 {
-    let mut at = 0;
-    while let Some(o) = g.next(p, at)? {
-        store_into(list, g, o, k, q)?;
-        at = o + 1;
-    }
-    Ok(())
+    let visit = |g: &mut G, o: u16|
+        requires { q < 256 }
+        ensures { Adds G.rows G.limit (G.notes (system_of list.entry.now)) (StoreInto (system_of list.entry.now).blocks o k q) g.old g.new result }
+    { store_into(list, g, o, k, q) };
+    for_each_object(g, p, visit)
 }
 
 // Walks a constraint: it adds only pairs that lie in all rows which contain those found and meet the constraint's rule,

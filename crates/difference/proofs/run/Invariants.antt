@@ -7,13 +7,13 @@ use Rattle.difference.proofs.Runs.{effort}
 use Rattle.difference.proofs.run.Given as goal
 
 -- what the pairs handed on ask is there, and only what every solution has was added
-abbrev pub invariant-loop-v : goal.invariant-loop-v
-invariant-loop-v g l =
+abbrev pub invariant-loop-pair : goal.invariant-loop-pair
+invariant-loop-pair g l =
     let pairs = g.S.RowStore.pairs in
     let room = g.S.RowStore.room in
     Ready (system_of l.list) l.work.taken (pairs l.work.store) l.work.pending
     × Grows (λ d. pairs d.store) (λ d. room d.store) Any (Solves (first l.initial.work.taken (system_of l.list))) l.initial.work l.work
     × (l.work.taken ≡ l.initial.work.taken)
 
-abbrev pub decreases-loop-v : goal.decreases-loop-v
-decreases-loop-v g l = effort (g.S.RowStore.pairs l.work.store) l.work.pending
+abbrev pub decreases-loop-pair : goal.decreases-loop-pair
+decreases-loop-pair g l = effort (g.S.RowStore.pairs l.work.store) l.work.pending

@@ -1,23 +1,13 @@
-use Rattle.std.proofs.Common.{arith}
-use Rattle.std.proofs.lemmas.Result.{err_from_is_err_and}
+use Rattle.std.proofs.Common.{rules}
 use Rattle.constraints.specs.Lists.{system_of}
-use Rattle.walks.proofs.Scans.{true-T, scan_more}
-use Rattle.walks.proofs.Growth.{grows_then, grown_refused}
+use Rattle.walks.specs.Rules.{StoreInto}
+use Rattle.walks.proofs.Growth.{grown_weaker}
+use Rattle.walks.proofs.Visits.{grown_calls}
 use Rattle.walks.proofs.walk_store.Goals as goal
 
-pub returns-in_err-store_into : goal.returns-in_err-store_into
-returns-in_err-store_into g c =
-    let next = (rw c.in-Some.is at c.in_ok-o.ensures).0 in
-    let exit = err_from_is_err_and c.from_residual-in_err-store_into.result c.from_residual-in_err-store_into.ensures.1 in
-    grown_refused (g.met.G.Grower.onward (system_of c.args.list.now)) _ _ _ _ _ c.loop-o.invariant.0 (λ R m h. λ lt x g. m _ x (h _ _ (true-T next.held)) lt g)
-    _ _ _ _ c.in_err-store_into.ensures (rw (exit.1, exit.2))
-
-pub loop-o-preserved : goal.loop-o-preserved
-loop-o-preserved g c =
-    let next = (rw c.in-Some.is at c.in_ok-o.ensures).0 in
-    let found = c.loop-o.invariant.0.more in
-    let more = c.store_into.ensures.grows.more in (
-      grows_then (g.met.G.Grower.onward (system_of c.args.list.now)) _ _ _ _ _ c.loop-o.invariant.0 (λ R m h. λ lt x g. m _ x (h _ _ (true-T next.held)) lt g) c.store_into.ensures.grows,
-      scan_more _ _ _ _ found _ (λ x l p h y m. more _ _ (c.loop-o.invariant.1 x l p h y m)) c.in-Some.o next (λ h y m. c.in_ok-store_into.ensures.ends h y (found _ _ m)),
-      omega (arith, next.object),
-    )
+pub returns : goal.returns
+returns g c =
+    let sys = system_of c.args.list.now in
+    grown_weaker _ _ _ _ _ _ (λ R m h o t lt x i. m o x t lt i) (λ d o x t lt i. d o t lt x i) _
+    (grown_calls (g.met.G.Grower.still sys) (g.met.G.Grower.onward sys) c.args.p (λ o. StoreInto sys.blocks o c.args.k c.args.q)
+    (λ o P P' R R' l m h lt x i. m _ _ (h lt x (l _ _ i))) (λ a o r b met. search rules) c.for_each_object.ensures)

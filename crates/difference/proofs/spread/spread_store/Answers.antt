@@ -11,7 +11,7 @@ returns-in_err-store_base g c =
     let sys = system_of c.args.list.now in
     let exit = err_from_is_err_and c.from_residual.result c.from_residual.ensures.1 in
     grown_refused (g.met.G.Grower.onward sys) _ _ _ _ _ (grows_none _ _ _ (g.met.G.Grower.still sys) (λ R. Meets sys.blocks (Store c.args.p c.args.k c.args.q) (pairs R)) _)
-    (λ R m h e b x t. m c.args.o x (rw e (h _ _ c.requires.held)) b t) _ _ _ _ c.in_err-store_base.ensures (rw (exit.1, exit.2))
+    (λ R m h e b x t. m c.args.pair.object x (rw e (h _ _ c.requires.held)) b t) _ _ _ _ c.in_err-store_base.ensures (rw (exit.1, exit.2))
 
 pub returns : goal.returns
 returns g c =
@@ -19,6 +19,6 @@ returns g c =
     let base = c.in_ok-store_base.ensures in
     let later = c.store_value.ensures.grows.more in
     grown_after (g.met.G.Grower.onward sys) (λ R. Meets sys.blocks (Store c.args.p c.args.k c.args.q) (pairs R)) _ _ _ _
-    (grows_weaker (λ R m h e b x t. m c.args.o x (rw e (h _ _ c.requires.held)) b t) base.grows)
-    (λ R m h e y l b. m y c.args.o l b (rw e (h _ _ (base.grows.more _ _ c.requires.held)))) _ _ (λ value. (λ e b x h. later _ _ (base.ends e b x h), λ e y l b. value e y (base.grows.more _ _ l) b))
+    (grows_weaker (λ R m h e b x t. m c.args.pair.object x (rw e (h _ _ c.requires.held)) b t) base.grows)
+    (λ R m h e y l b. m y c.args.pair.object l b (rw e (h _ _ (base.grows.more _ _ c.requires.held)))) _ _ (λ value. (λ e b x h. later _ _ (base.ends e b x h), λ e y l b. value e y (base.grows.more _ _ l) b))
     _ c.store_value.ensures
