@@ -1,5 +1,5 @@
 -- The answers of a sound store of chains, and an empty one.
-use Rattle.std.proofs.Common.{◌≡◌, ℕ, ◌<◌, ◌≤◌, false, List, length, replicate, Some, None, sym, ap, ◌∙◌, ⊎_elim, arith}
+use Rattle.std.proofs.Common.{◌≡◌, ℕ, ◌<◌, ◌≤◌, false, List, length, replicate, Some, None, Option, sym, ap, ◌∙◌, ⊎_elim, arith}
 use mathlib.Core.Path.{fun_ext}
 use mathlib.Core.Logic.{∥∥₁_elim}
 use Rattle.std.proofs.lemmas.Bool.{cases_lt, lt-ltb, ne_eqb, and_parts}
@@ -9,47 +9,47 @@ use Rattle.chains.specs.declared.Cell.{Cell}
 use Rattle.constraints.specs.Finite.{count}
 use Rattle.constraints.specs.Rows.{empty, total}
 use Rattle.rows.specs.Stores.{in_range, Within, Found}
-use Rattle.chains.specs.Cells.{end, object_of, reach, above, head_of, in_row, chain_pairs, chain_room, Passed, Rising, RisingRows, Apart, Placed, Sound, Sound-prop}
+use Rattle.chains.specs.Cells.{object_of, reach, above, head_of, in_row, chain_pairs, chain_room, Passed, Rising, RisingRows, Apart, Placed, Sound, Sound-prop}
 use Rattle.rows.proofs.Counts.{count_same, total_empty, inside_parts}
 use std.HLevel.{Π_prop}
 use denote.Struct.Props.{props}
-use Rattle.chains.proofs.Reach.{reach_zero, object_end, stays}
+use Rattle.chains.proofs.Reach.{none_some, reach_zero, object_end, stays}
 use Rattle.chains.proofs.Walks.{row_gap, row_here}
 
-rising_prop : (cs : List Cell) (hs : List ℕ) (used : ℕ) → IsProp (RisingRows cs hs used)
+rising_prop : (cs : List Cell) (hs : List (Option ℕ)) (used : ℕ) → IsProp (RisingRows cs hs used)
 rising_prop cs hs used = Π_prop (λ v. Π_prop (λ hv. Π_prop (λ o. Π_prop (λ ho. passed_prop (reach cs (head_of hs v) o) o))))
   where
-    passed_prop : (i o : ℕ) → IsProp (Passed cs used o i)
+    passed_prop : (i : Option ℕ) (o : ℕ) → IsProp (Passed cs used o i)
     passed_prop i o = hlevel props
 
-apart_prop : (cs : List Cell) (hs : List ℕ) → IsProp (Apart cs hs)
+apart_prop : (cs : List Cell) (hs : List (Option ℕ)) → IsProp (Apart cs hs)
 apart_prop cs hs =
     Π_prop (λ v. Π_prop (λ w. Π_prop (λ a. Π_prop (λ b. Π_prop (λ hv. Π_prop (λ hw. Π_prop (λ ha. Π_prop (λ hb.
     Π_prop (λ e. Π_prop (λ ne. hlevel props))))))))))
 
-pub is_sound : {cs : List Cell} {hs : List ℕ} {used : ℕ} → ∥ Sound cs hs used ∥₁ → Sound cs hs used
+pub is_sound : {cs : List Cell} {hs : List (Option ℕ)} {used : ℕ} → ∥ Sound cs hs used ∥₁ → Sound cs hs used
 is_sound {cs} {hs} {used} s =
     ∥∥₁_elim s
     (Sound-prop (hlevel props) (hlevel props) (rising_prop cs hs used) (apart_prop cs hs) (hlevel props))
     (λ t. t)
 
-pub in_cells : (cs : List Cell) (hs : List ℕ) (used v : ℕ) → Sound cs hs used → v < 256 → Rising cs (length cs) (head_of hs v)
+pub in_cells : (cs : List Cell) (hs : List (Option ℕ)) (used v : ℕ) → Sound cs hs used → v < 256 → Rising cs (length cs) (head_of hs v)
 in_cells cs hs used v sound hv o le =
     let p = sound.rising v hv o le in
-    (p.0, λ ne. let q = p.1 ne in omega (arith, sound.few))
+    (p.0, λ j e. let q = p.1 j e in omega (arith, sound.few))
 
-pub chain_within : (cs : List Cell) (hs : List ℕ) (used : ℕ) → Sound cs hs used → Within (chain_room cs) (chain_pairs cs hs)
+pub chain_within : (cs : List Cell) (hs : List (Option ℕ)) (used : ℕ) → Sound cs hs used → Within (chain_room cs) (chain_pairs cs hs)
 chain_within cs hs used sound = record {
   few = omega (arith, sound.counted, sound.few);
   inside = λ v o is. inside_parts v o (and_parts (in_range v o) (in_row cs (head_of hs v) o) is).0;
 }
 
-pub place_reach : (cs : List Cell) (h o before after : ℕ) → Placed cs h o before after → reach cs h o ≡ after
+pub place_reach : (cs : List Cell) (h : Option ℕ) (o : ℕ) (before after : Option ℕ) → Placed cs h o before after → reach cs h o ≡ after
 place_reach cs h o before after placed =
     let at = ap (object_of cs) placed.here in
     stays cs h (above cs before) o placed.low (omega (arith, placed.high)) ∙ placed.here
 
-module _ (cs : List Cell) (hs : List ℕ) (v : ℕ) (hv : v < 256) where
+module _ (cs : List Cell) (hs : List (Option ℕ)) (v : ℕ) (hv : v < 256) where
   pub pair_in_row : (o : ℕ) → o < 256 → chain_pairs cs hs v o ≡ in_row cs (head_of hs v) o
   pair_in_row o ho = rw (lt-ltb v 256 hv, lt-ltb o 256 ho)
 
@@ -63,7 +63,7 @@ module _ (cs : List Cell) (hs : List ℕ) (v : ℕ) (hv : v < 256) where
       (λ past. grind (arith, nat_tests))
       (cases_lt k 256)
 
-  pub next_none : (start : ℕ) → reach cs (head_of hs v) start ≡ end → Found (chain_pairs cs hs v) start None
+  pub next_none : (start : ℕ) → reach cs (head_of hs v) start ≡ None → Found (chain_pairs cs hs v) start None
   next_none start at k le = ⊎_elim
       (λ hk. lacks start k le (omega (arith, object_end cs (reach cs (head_of hs v) start) at)))
       (λ past. grind (arith, nat_tests))
@@ -78,10 +78,10 @@ module _ (cs : List Cell) (hs : List ℕ) (v : ℕ) (hv : v < 256) where
     before = λ k l u. lacks start k l (omega arith);
   }
 
-module _ (cs : List Cell) (hs : List ℕ) (no_rows : (v : ℕ) → v < 256 → head_of hs v ≡ end) where
-  stuck : (v o : ℕ) → v < 256 → o ≤ 65536 → reach cs (head_of hs v) o ≡ end
+module _ (cs : List Cell) (hs : List (Option ℕ)) (no_rows : (v : ℕ) → v < 256 → head_of hs v ≡ None) where
+  stuck : (v o : ℕ) → v < 256 → o ≤ 65536 → reach cs (head_of hs v) o ≡ None
   stuck v o hv ho =
-      let at : reach cs (head_of hs v) 0 ≡ end = reach_zero cs (head_of hs v) ∙ no_rows v hv in
+      let at : reach cs (head_of hs v) 0 ≡ None = reach_zero cs (head_of hs v) ∙ no_rows v hv in
       let far = object_end cs (reach cs (head_of hs v) 0) at in
       stays cs (head_of hs v) 0 o (omega arith) (omega arith) ∙ at
 
@@ -100,17 +100,17 @@ module _ (cs : List Cell) (hs : List ℕ) (no_rows : (v : ℕ) → v < 256 → h
   empty_sound rows = record {
     rows = rows;
     few = omega arith;
-    rising = λ v hv o ho. let at = stuck v o hv ho in let far = object_end cs (reach cs (head_of hs v) o) at in (omega arith, λ ne. absurd (ne at));
+    rising = λ v hv o ho. let at = stuck v o hv ho in let far = object_end cs (reach cs (head_of hs v) o) at in (omega arith, λ j e. absurd (none_some (sym at ∙ e)));
     apart = λ v w a b hv hw ha hb e ne. absurd (ne (stuck v a hv ha));
     counted = sym (ap total empty_pairs ∙ total_empty);
   }
 
-no_head : (v : ℕ) → v < 256 → head_of (replicate 256 end) v ≡ end
-no_head v hv = get_or-replicate 256 v end 0 hv
+no_head : (v : ℕ) → v < 256 → head_of (replicate 256 None) v ≡ None
+no_head v hv = get_or-replicate 256 v None None hv
 
 -- the heads of a store without pairs
-pub wiped_pairs : (cs : List Cell) → chain_pairs cs (replicate 256 end) ≡ empty
-wiped_pairs cs = empty_pairs cs (replicate 256 end) no_head
+pub wiped_pairs : (cs : List Cell) → chain_pairs cs (replicate 256 None) ≡ empty
+wiped_pairs cs = empty_pairs cs (replicate 256 None) no_head
 
-pub wiped_sound : (cs : List Cell) → Sound cs (replicate 256 end) 0
-wiped_sound cs = empty_sound cs (replicate 256 end) no_head (length-replicate 256 end)
+pub wiped_sound : (cs : List Cell) → Sound cs (replicate 256 None) 0
+wiped_sound cs = empty_sound cs (replicate 256 None) no_head (length-replicate {A = Option ℕ} 256 None)

@@ -1,25 +1,23 @@
--- What the two ways to insert a cell leave: a sound store with one pair more.
-use Rattle.std.proofs.Common.{◌≡◌, ℕ, ◌+◌, ◌<◌, false, cond, eqb, List, length, drop, set, sym, refl, ap, ◌∙◌, subst, ⊎_elim, arith}
-use Rattle.std.proofs.lemmas.Bool.{cases_eq, eqb-false}
+-- What it leaves to link a cell in: a sound store with one pair more.
+use Rattle.std.proofs.Common.{◌≡◌, ℕ, ◌+◌, ◌<◌, true, false, ◌⊎◌, is_some, List, Some, None, Option, length, drop, set, sym, refl, ap, ◌∙◌, subst, subst₂, ⊎_elim, arith}
+use Rattle.std.proofs.lemmas.Bool.{cases_eq, eqb-false, ne_eqb, false≢true}
 use Rattle.std.proofs.lemmas.List.{get_or-set_same, get_or-set_other, length-set, drop-set-lt}
 use Rattle.chains.specs.declared.Cell.{Cell}
 use Rattle.constraints.specs.Rows.{with_pair}
-use Rattle.chains.specs.Cells.{end, cell_at, link_of, object_of, step, reach, head_of, chain_pairs, chain_room, chain_spare, numbers, Placed, Sound, put_first, put_after, Spliced}
-use Rattle.chains.proofs.Reach.{above_cell, reach_next, step_on}
-use Rattle.chains.proofs.Walks.{object_cell}
+use Rattle.chains.specs.Cells.{end, cell_of, link_to, cell_at, link_of, object_of, reach, head_of, chain_pairs, chain_room, chain_spare, numbers, Placed, Sound, put_cell, linked_in, Spliced}
+use Rattle.chains.proofs.Reach.{none_some, above_cell}
 use Rattle.chains.proofs.Chained.{pair_in_row, place_reach}
 use Rattle.chains.proofs.Splice.{spliced_pairs, spliced_sound}
 
--- the object of a cell, by what is stored there
-object_same : (cs ds : List Cell) (i : ℕ) → (cell_at ds i).object ≡ (cell_at cs i).object → object_of ds i ≡ object_of cs i
-object_same cs ds i e = ap (λ o. cond (eqb i end) 65536 o) e
+abbrev blank : Cell
+blank = record { object = 0; link = 0 }
 
-module _ (cs : List Cell) (hs : List ℕ) (used v o before after : ℕ)
+module _ (cs : List Cell) (hs : List (Option ℕ)) (used v o : ℕ) (before after : Option ℕ)
     (sound : Sound cs hs used) (hv : v < 256) (ho : o < 256)
     (placed : Placed cs (head_of hs v) o before after) (new : chain_pairs cs hs v o ≡ false)
     (few : used < chain_room cs) where
   -- the cells ds and the heads gs hold one pair more
-  abbrev pub Added : List Cell → List ℕ → Type 0
+  abbrev pub Added : List Cell → List (Option ℕ) → Type 0
   Added ds gs =
       Sound ds gs (used + 1) × (chain_pairs ds gs ≡ with_pair (chain_pairs cs hs) v o)
       × (chain_room ds ≡ chain_room cs) × (chain_spare ds ≡ chain_spare cs)
@@ -29,7 +27,7 @@ module _ (cs : List Cell) (hs : List ℕ) (used v o before after : ℕ)
       let at = ap (object_of cs) (place_reach cs (head_of hs v) o before after placed) in
       eqb-false (object_of cs (reach cs (head_of hs v) o)) o (sym (pair_in_row cs hs v hv o ho) ∙ new) (at ∙ e)
 
-  added : (ds : List Cell) (gs : List ℕ) → Spliced cs ds hs gs used v o before after → length ds ≡ length cs → length gs ≡ 256
+  added : (ds : List Cell) (gs : List (Option ℕ)) → Spliced cs ds hs gs used v o before after → length ds ≡ length cs → length gs ≡ 256
       → drop (chain_room cs) ds ≡ drop (chain_room cs) cs → Added ds gs
   added ds gs spliced same rows rest = (
     spliced_sound cs ds hs gs used v o before after sound hv ho placed after_differs few spliced same rows,
@@ -38,87 +36,123 @@ module _ (cs : List Cell) (hs : List ℕ) (used v o before after : ℕ)
     rw same (ap numbers rest),
   )
 
-  fresh_at : cell_at (put_first cs after used o) used ≡ record { object = o; link = after }
-  fresh_at = get_or-set_same cs used (record { object = o; link = after }) (record { object = 0; link = 0 }) (omega arith)
+  -- the link to a cell of a row leads there
+  leads : (i : Option ℕ) → i ≡ reach cs (head_of hs v) o → cell_of (link_to i) ≡ i
+  leads None e = refl
+  leads (Some j) e =
+      let inside = (sound.rising v hv o (omega arith)).1 j (sym e) in
+      rw (ne_eqb j end (omega arith)) refl
 
-  others_at : (i : ℕ) → (i ≡ used → ⊥) → cell_at (put_first cs after used o) i ≡ cell_at cs i
-  others_at i ne = get_or-set_other cs used i (record { object = o; link = after }) (record { object = 0; link = 0 }) ne
+  after_real : cell_of (link_to after) ≡ after
+  after_real = leads after (sym (place_reach cs (head_of hs v) o before after placed))
 
-  not_end : used ≡ end → ⊥
-  not_end = omega arith
+  used_real : cell_of used ≡ Some used
+  used_real = rw (ne_eqb used end (omega arith)) refl
 
-  first_rest : drop (chain_room cs) (put_first cs after used o) ≡ drop (chain_room cs) cs
-  first_rest = drop-set-lt (chain_room cs) cs used (record { object = o; link = after }) few
+  abbrev fresh : Cell
+  fresh = record { object = o; link = link_to after }
 
-  pub added_first : before ≡ end → Added (put_first cs after used o) (set hs v used)
-  added_first is_end = added (put_first cs after used o) (set hs v used)
+  abbrev base : List Cell
+  base = put_cell cs after used o
+
+  fresh_at : cell_at base used ≡ fresh
+  fresh_at = get_or-set_same cs used fresh blank (omega arith)
+
+  others_at : (j : ℕ) → (j ≡ used → ⊥) → cell_at base j ≡ cell_at cs j
+  others_at j ne = get_or-set_other cs used j fresh blank ne
+
+  base_rest : drop (chain_room cs) base ≡ drop (chain_room cs) cs
+  base_rest = drop-set-lt (chain_room cs) cs used fresh few
+
+  base_objects : (i : Option ℕ) → (i ≡ Some used → ⊥) → object_of base i ≡ object_of cs i
+  base_objects None nu = refl
+  base_objects (Some j) nu = ap (λ x. x.object) (others_at j (λ e. nu (ap Some e)))
+
+  base_links : (i : Option ℕ) → (i ≡ Some used → ⊥) → link_of base i ≡ link_of cs i
+  base_links None nu = refl
+  base_links (Some j) nu = ap (λ x. cell_of x.link) (others_at j (λ e. nu (ap Some e)))
+
+  added_first : before ≡ None → Added (linked_in cs before after used o) (set hs v (Some used))
+  added_first is_none = subst (λ b. Added (linked_in cs b after used o) (set hs v (Some used))) (sym is_none)
+      (added base (set hs v (Some used))
       (record {
-        object = object_cell (put_first cs after used o) used not_end ∙ ap (λ x. x.object) fresh_at;
-        link = ap (λ x. x.link) fresh_at;
-        objects = λ i ne. object_same cs (put_first cs after used o) i (ap (λ x. x.object) (others_at i ne));
-        links = λ i ne nb. ap (λ x. x.link) (others_at i ne);
-        heads = λ w ne. get_or-set_other hs v w used 0 ne;
-        first = λ _. get_or-set_same hs v used 0 (omega (arith, sound.rows));
-        later = λ ne. absurd (ne is_end);
+        object = ap (λ x. x.object) fresh_at;
+        link = ap (λ x. cell_of x.link) fresh_at ∙ after_real;
+        objects = base_objects;
+        links = λ i nu nb. base_links i nu;
+        heads = λ w ne. get_or-set_other hs v w (Some used) None ne;
+        first = λ _. get_or-set_same hs v (Some used) None (omega (arith, sound.rows));
+        later = λ ne. absurd (ne is_none);
       })
-      (length-set cs used (record { object = o; link = after }))
-      (length-set hs v used ∙ sound.rows)
-      first_rest
+      (length-set cs used fresh)
+      (length-set hs v (Some used) ∙ sound.rows)
+      base_rest)
 
-  module _ (ne : before ≡ end → ⊥) where
-    before_low : object_of cs before < o
-    before_low = omega (arith, placed.low, above_cell cs before ne)
+  module _ (b : ℕ) (is : before ≡ Some b) where
+    not_none : before ≡ None → ⊥
+    not_none e = none_some (sym e ∙ is)
 
-    before_used : before < used
+    before_used : b < used
     before_used =
-        let low = before_low in
-        let at = placed.prior ne in
-        let bound = (sound.rising v hv (object_of cs before) (omega arith)).1 (λ e. ne (sym at ∙ e)) in
-        omega arith
+        let low : object_of cs before < o = omega (arith, placed.low, above_cell cs before not_none) in
+        ((sound.rising v hv (object_of cs before) (omega arith)).1 b (placed.prior not_none ∙ is)).0
 
-    linked : link_of cs before ≡ after
-    linked =
-        let k = object_of cs before in
-        sym (sym placed.here ∙ ap (reach cs (head_of hs v)) (above_cell cs before ne)
-        ∙ reach_next cs (head_of hs v) k ∙ ap (λ i. step cs i k) (placed.prior ne) ∙ step_on cs before k refl)
-
-    -- the cell `before`, linked to the fresh one
     abbrev relinked : Cell
-    relinked = record { object = (cell_at cs before).object; link = used }
+    relinked = record { object = (cell_at base b).object; link = used }
 
     abbrev both : List Cell
-    both = set (put_first cs after used o) before relinked
+    both = set base b relinked
 
-    before_at : cell_at both before ≡ relinked
-    before_at = get_or-set_same (put_first cs after used o) before relinked (record { object = 0; link = 0 })
-        (simp length-set (let l = before_used in omega arith))
+    before_at : cell_at both b ≡ relinked
+    before_at = get_or-set_same base b relinked blank (simp length-set (let l = before_used in omega arith))
 
-    elsewhere : (i : ℕ) → (i ≡ before → ⊥) → cell_at both i ≡ cell_at (put_first cs after used o) i
-    elsewhere i nb = get_or-set_other (put_first cs after used o) before i relinked (record { object = 0; link = 0 }) nb
+    elsewhere : (j : ℕ) → (j ≡ b → ⊥) → cell_at both j ≡ cell_at base j
+    elsewhere j nb = get_or-set_other base b j relinked blank nb
 
-    fresh_cell : cell_at both used ≡ record { object = o; link = after }
+    fresh_cell : cell_at both used ≡ fresh
     fresh_cell = elsewhere used (let l = before_used in omega arith) ∙ fresh_at
 
-    objects_kept : (i : ℕ) → (i ≡ used → ⊥) → object_of both i ≡ object_of cs i
-    objects_kept i nu = object_same cs both i (⊎_elim
-        (λ e. rw e (ap (λ x. x.object) before_at))
-        (λ nb. ap (λ x. x.object) (elsewhere i nb ∙ others_at i nu))
-        (cases_eq i before))
+    objects_kept : (i : Option ℕ) → (i ≡ Some used → ⊥) → object_of both i ≡ object_of cs i
+    objects_kept None nu = refl
+    objects_kept (Some j) nu = ⊎_elim
+        (λ e. rw e (ap (λ x. x.object) before_at) ∙ base_objects (Some j) nu)
+        (λ nb. ap (λ x. x.object) (elsewhere j nb) ∙ base_objects (Some j) nu)
+        (cases_eq j b)
 
-    added_both : Added both hs
-    added_both = added both hs
+    links_kept : (i : Option ℕ) → (i ≡ Some used → ⊥) → (i ≡ before → ⊥) → link_of both i ≡ link_of cs i
+    links_kept None nu nb = refl
+    links_kept (Some j) nu nb = ap (λ x. cell_of x.link) (elsewhere j (λ e. nb (ap Some e ∙ sym is))) ∙ base_links (Some j) nu
+
+    added_later : Added (linked_in cs before after used o) hs
+    added_later = subst (λ i. Added (linked_in cs i after used o) hs) (sym is)
+        (added both hs
         (record {
-          object = object_cell both used not_end ∙ ap (λ x. x.object) fresh_cell;
-          link = ap (λ x. x.link) fresh_cell;
+          object = ap (λ x. x.object) fresh_cell;
+          link = ap (λ x. cell_of x.link) fresh_cell ∙ after_real;
           objects = objects_kept;
-          links = λ i nu nb. ap (λ x. x.link) (elsewhere i nb ∙ others_at i nu);
+          links = links_kept;
           heads = λ w _. refl;
-          first = λ e. absurd (ne e);
-          later = λ _. (ap (λ x. x.link) before_at, refl);
+          first = λ e. absurd (not_none e);
+          later = λ _. (ap (link_of both) is ∙ ap (λ x. cell_of x.link) before_at ∙ used_real, refl);
         })
-        (length-set (put_first cs after used o) before relinked ∙ length-set cs used (record { object = o; link = after }))
+        (length-set base b relinked ∙ length-set cs used fresh)
         sound.rows
-        (drop-set-lt (chain_room cs) (put_first cs after used o) before relinked (let l = before_used in omega arith) ∙ first_rest)
+        (drop-set-lt (chain_room cs) base b relinked (let l = before_used in omega arith) ∙ base_rest))
 
-    pub added_later : Added (put_after cs before used o) hs
-    added_later = subst (λ l. Added (set (put_first cs l used o) before relinked) hs) (sym linked) added_both
+  if_none : (i : Option ℕ) → is_some i ≡ false → i ≡ None
+  if_none None e = refl
+  if_none (Some b) e = absurd (false≢true (sym e))
+
+  if_some : (i : Option ℕ) → is_some i ≡ true → (b : ℕ) × (i ≡ Some b)
+  if_some None e = absurd (false≢true e)
+  if_some (Some b) e = (b, refl)
+
+  -- the heads gs are those that belong to the place
+  abbrev pub Headed : List (Option ℕ) → Type 0
+  Headed gs = ((is_some before ≡ false) × (gs ≡ set hs v (Some used))) ⊎ ((is_some before ≡ true) × (gs ≡ hs))
+
+  pub added_in : (ds : List Cell) (gs : List (Option ℕ)) → ds ≡ linked_in cs before after used o → Headed gs → Added ds gs
+  added_in ds gs cells headed = ⊎_elim
+      (λ h. subst₂ Added (sym cells) (sym h.1) (added_first (if_none before h.0)))
+      (λ h. let found = if_some before h.0 in subst₂ Added (sym cells) (sym h.1) (added_later found.0 found.1))
+      headed

@@ -1,25 +1,38 @@
 -- The walk along a row.
-use Rattle.std.proofs.Common.{◌≡◌, ℕ, zero, suc, ◌+◌, ◌<◌, ◌≤◌, List, sym, refl, ap, ◌∙◌, ⊎_elim, arith}
-use Rattle.std.proofs.lemmas.Bool.{cases_eq, eq-eqb, ne_eqb}
+use Rattle.std.proofs.Common.{◌≡◌, ℕ, zero, suc, ◌+◌, ◌<◌, ◌≤◌, List, Some, None, Option, ◌⊎◌, is_some, inl, inr, sym, refl, ap, ◌∙◌, ⊎_elim, arith}
+use Rattle.std.proofs.lemmas.Bool.{cases_eq, eq-eqb, ne_eqb, false≢true}
 use Rattle.chains.specs.declared.Cell.{Cell}
-use Rattle.chains.specs.Cells.{end, link_of, object_of, step, reach, above}
+use Rattle.chains.specs.Cells.{link_of, object_of, step, reach, above}
 
-pub step_on : (cs : List Cell) (i o : ℕ) → object_of cs i ≡ o → step cs i o ≡ link_of cs i
+pub none_some : {j : ℕ} → ◌≡◌ {A = Option ℕ} None (Some j) → ⊥
+none_some e = false≢true (ap is_some e)
+
+pub some_same : {x y : ℕ} → Some x ≡ Some y → x ≡ y
+some_same e = cc
+
+pub cases_place : (a b : Option ℕ) → (a ≡ b) ⊎ (a ≡ b → ⊥)
+cases_place None None = inl refl
+cases_place None (Some y) = inr none_some
+cases_place (Some x) None = inr (λ e. none_some (sym e))
+cases_place (Some x) (Some y) = ⊎_elim (λ e. inl (ap Some e)) (λ ne. inr (λ e. ne (some_same e))) (cases_eq x y)
+
+pub step_on : (cs : List Cell) (i : Option ℕ) (o : ℕ) → object_of cs i ≡ o → step cs i o ≡ link_of cs i
 step_on cs i o e = rw (eq-eqb (object_of cs i) o e)
 
-pub step_stay : (cs : List Cell) (i o : ℕ) → (object_of cs i ≡ o → ⊥) → step cs i o ≡ i
+pub step_stay : (cs : List Cell) (i : Option ℕ) (o : ℕ) → (object_of cs i ≡ o → ⊥) → step cs i o ≡ i
 step_stay cs i o ne = rw (ne_eqb (object_of cs i) o ne)
 
-pub object_end : (cs : List Cell) (i : ℕ) → i ≡ end → object_of cs i ≡ 65536
-object_end cs i e = rw (eq-eqb i end e)
+pub object_end : (cs : List Cell) (i : Option ℕ) → i ≡ None → object_of cs i ≡ 65536
+object_end cs i e = ap (object_of cs) e
 
-pub above_cell : (cs : List Cell) (i : ℕ) → (i ≡ end → ⊥) → above cs i ≡ object_of cs i + 1
-above_cell cs i ne = rw (ne_eqb i end ne)
+pub above_cell : (cs : List Cell) (i : Option ℕ) → (i ≡ None → ⊥) → above cs i ≡ object_of cs i + 1
+above_cell cs None ne = absurd (ne refl)
+above_cell cs (Some j) ne = refl
 
-pub above_end : (cs : List Cell) (i : ℕ) → i ≡ end → above cs i ≡ 0
-above_end cs i e = rw (eq-eqb i end e)
+pub above_end : (cs : List Cell) (i : Option ℕ) → i ≡ None → above cs i ≡ 0
+above_end cs i e = ap (above cs) e
 
-module _ (cs : List Cell) (h : ℕ) where
+module _ (cs : List Cell) (h : Option ℕ) where
   pub reach_zero : reach cs h 0 ≡ h
   unfolding reach
   reach_zero = refl
@@ -48,7 +61,7 @@ module _ (cs : List Cell) (h : ℕ) where
       reach_next k ∙ ap (λ i. step cs i k) at ∙ step_on cs (reach cs h a) k refl
 
 -- two walks agree from a on, where their steps do
-pub agree : (cs ds : List Cell) (h g a b : ℕ) → a ≤ b → reach ds g a ≡ reach cs h a
+pub agree : (cs ds : List Cell) (h g : Option ℕ) (a b : ℕ) → a ≤ b → reach ds g a ≡ reach cs h a
     → ((k : ℕ) → a ≤ k → k < b → step ds (reach cs h k) k ≡ step cs (reach cs h k) k)
     → reach ds g b ≡ reach cs h b
 unfolding reach

@@ -1,13 +1,13 @@
 -- A fresh cell spliced into a row: the row has one object more, and the others stay.
-use Rattle.std.proofs.Common.{◌≡◌, ℕ, ◌+◌, ◌<◌, ◌≤◌, false, ◌&&◌, ◌||◌, eqb, ◌⊎◌, List, length, sym, ap, ◌∙◌, inl, inr, ⊎_elim, arith}
+use Rattle.std.proofs.Common.{◌≡◌, ℕ, ◌+◌, ◌<◌, ◌≤◌, false, ◌&&◌, ◌||◌, eqb, ◌⊎◌, List, Some, None, Option, length, sym, ap, ◌∙◌, inl, inr, ⊎_elim, arith}
 use mathlib.Core.Path.{fun_ext}
 use Rattle.std.proofs.lemmas.Bool.{cases_eq, cases_lt, ne_eqb}
 use Rattle.std.proofs.lemmas.Bool.Decides.{nat_tests}
 use Rattle.chains.specs.declared.Cell.{Cell}
 use Rattle.constraints.specs.Rows.{with_pair, total}
-use Rattle.chains.specs.Cells.{end, object_of, step, reach, above, head_of, in_row, chain_pairs, chain_room, Passed, Placed, Sound, Spliced}
+use Rattle.chains.specs.Cells.{object_of, step, reach, above, head_of, in_row, chain_pairs, chain_room, Passed, Placed, Sound, Spliced}
 use Rattle.rows.proofs.Counts.{total_with}
-use Rattle.chains.proofs.Reach.{step_on, step_stay, object_end, above_cell, above_end, reach_zero, reach_next, stays, agree}
+use Rattle.chains.proofs.Reach.{cases_place, some_same, step_on, step_stay, object_end, above_cell, above_end, reach_zero, reach_next, stays, agree}
 
 kept_test : (w v p o x y : ℕ) → x ≡ y → (w ≡ v → p ≡ o → ⊥) → eqb x p ≡ (eqb y p || (eqb w v && eqb p o))
 kept_test w v p o x y same other = grind (arith, nat_tests)
@@ -15,24 +15,22 @@ kept_test w v p o x y same other = grind (arith, nat_tests)
 fresh_test : (w v p o x y : ℕ) → w ≡ v → x ≡ o → p ≤ o → o < y → eqb x p ≡ (eqb y p || (eqb w v && eqb p o))
 fresh_test w v p o x y row fresh up past = grind (arith, nat_tests)
 
-module _ (cs ds : List Cell) (hs gs : List ℕ) (used v o before after : ℕ)
+module _ (cs ds : List Cell) (hs gs : List (Option ℕ)) (used v o : ℕ) (before after : Option ℕ)
     (sound : Sound cs hs used) (hv : v < 256) (ho : o < 256)
     (placed : Placed cs (head_of hs v) o before after) (new : object_of cs after ≡ o → ⊥)
     (few : used < chain_room cs) (spliced : Spliced cs ds hs gs used v o before after) where
-  not_fresh : (w k : ℕ) → w < 256 → k ≤ 65536 → reach cs (head_of hs w) k ≡ used → ⊥
+  not_fresh : (w k : ℕ) → w < 256 → k ≤ 65536 → reach cs (head_of hs w) k ≡ Some used → ⊥
   not_fresh w k hw hk e =
-      let p = sound.rising w hw k hk in
-      let ne : reach cs (head_of hs w) k ≡ end → ⊥ = omega arith in
-      omega (arith, p.1 ne)
+      let inside = (sound.rising w hw k hk).1 used e in omega arith
 
   -- a cell before which nothing is linked in steps as it did
-  same_step : (i k : ℕ) → (i ≡ used → ⊥) → (i ≡ before → object_of cs i ≡ k → ⊥) → step ds i k ≡ step cs i k
+  same_step : (i : Option ℕ) (k : ℕ) → (i ≡ Some used → ⊥) → (i ≡ before → object_of cs i ≡ k → ⊥) → step ds i k ≡ step cs i k
   same_step i k nu nb = ⊎_elim
       (λ e. step_stay ds i k (rw (spliced.objects i nu) (nb e)) ∙ sym (step_stay cs i k (nb e)))
       (λ ne. rw (spliced.objects i nu, spliced.links i nu ne))
-      (cases_eq i before)
+      (cases_place i before)
 
-  before_low : (before ≡ end → ⊥) → object_of cs before < o
+  before_low : (before ≡ None → ⊥) → object_of cs before < o
   before_low ne = omega (arith, placed.low, above_cell cs before ne)
 
   other_row : (w b : ℕ) → w < 256 → b ≤ 65536 → (w ≡ v → ⊥) → reach ds (head_of gs w) b ≡ reach cs (head_of hs w) b
@@ -40,33 +38,33 @@ module _ (cs ds : List Cell) (hs gs : List ℕ) (used v o before after : ℕ)
       agree cs ds (head_of hs w) (head_of gs w) 0 b (omega arith)
       (reach_zero ds (head_of gs w) ∙ spliced.heads w ne ∙ sym (reach_zero cs (head_of hs w)))
       (λ k _ l. same_step (reach cs (head_of hs w) k) k (not_fresh w k hw (omega arith)) (λ eb eo.
-      let neb : before ≡ end → ⊥ = λ e. omega (arith, object_end cs (reach cs (head_of hs w) k) (eb ∙ e)) in
+      let neb : before ≡ None → ⊥ = λ e. omega (arith, object_end cs (reach cs (head_of hs w) k) (eb ∙ e)) in
       let low = before_low neb in
       ne (sound.apart w v k (object_of cs before) hw hv (omega arith) (omega arith) (eb ∙ sym (placed.prior neb)) (λ e. neb (sym eb ∙ e)))))
 
   row_low : (b : ℕ) → b < above cs before → reach ds (head_of gs v) b ≡ reach cs (head_of hs v) b
   row_low b l =
-      let ne : before ≡ end → ⊥ = λ e. omega (arith, above_end cs before e) in
+      let ne : before ≡ None → ⊥ = λ e. omega (arith, above_end cs before e) in
       let low = before_low ne in
       let up = above_cell cs before ne in
       agree cs ds (head_of hs v) (head_of gs v) 0 b (omega arith)
       (reach_zero ds (head_of gs v) ∙ (spliced.later ne).1 ∙ sym (reach_zero cs (head_of hs v)))
       (λ k _ m. same_step (reach cs (head_of hs v) k) k (not_fresh v k hv (omega arith)) (λ eb eo. omega (arith, ap (object_of cs) eb)))
 
-  row_at : reach ds (head_of gs v) (above cs before) ≡ used
+  row_at : reach ds (head_of gs v) (above cs before) ≡ Some used
   row_at = ⊎_elim
       (λ e. rw (above_end cs before e) (reach_zero ds (head_of gs v) ∙ spliced.first e))
       (λ ne.
       let k = object_of cs before in
       let low = before_low ne in
       let up = above_cell cs before ne in
-      let nu : before ≡ used → ⊥ = λ e. not_fresh v k hv (omega arith) (placed.prior ne ∙ e) in
+      let nu : before ≡ Some used → ⊥ = λ e. not_fresh v k hv (omega arith) (placed.prior ne ∙ e) in
       ap (reach ds (head_of gs v)) up ∙ reach_next ds (head_of gs v) k
       ∙ ap (λ i. step ds i k) (row_low k (omega arith) ∙ placed.prior ne)
       ∙ step_on ds before k (spliced.objects before nu) ∙ (spliced.later ne).0)
-      (cases_eq before end)
+      (cases_place before None)
 
-  row_mid : (b : ℕ) → above cs before ≤ b → b ≤ o → reach ds (head_of gs v) b ≡ used
+  row_mid : (b : ℕ) → above cs before ≤ b → b ≤ o → reach ds (head_of gs v) b ≡ Some used
   row_mid b l u =
       let at = ap (object_of ds) row_at ∙ spliced.object in
       stays ds (head_of gs v) (above cs before) b l (omega arith) ∙ row_at
@@ -80,16 +78,16 @@ module _ (cs ds : List Cell) (hs gs : List ℕ) (used v o before after : ℕ)
   row_high b l u =
       agree cs ds (head_of hs v) (head_of gs v) (o + 1) b (omega arith)
       (reach_next ds (head_of gs v) o ∙ ap (λ i. step ds i o) (row_mid o placed.low (omega arith))
-      ∙ step_on ds used o spliced.object ∙ spliced.link
+      ∙ step_on ds (Some used) o spliced.object ∙ spliced.link
       ∙ sym (reach_next cs (head_of hs v) o ∙ ap (λ i. step cs i o) (old_at o placed.low (omega arith)) ∙ step_stay cs after o new))
       (λ k m n. same_step (reach cs (head_of hs v) k) k (not_fresh v k hv (omega arith)) (λ eb eo.
-      let neb : before ≡ end → ⊥ = λ e. omega (arith, object_end cs (reach cs (head_of hs v) k) (eb ∙ e)) in
+      let neb : before ≡ None → ⊥ = λ e. omega (arith, object_end cs (reach cs (head_of hs v) k) (eb ∙ e)) in
       omega (arith, ap (object_of cs) eb, before_low neb)))
 
   -- each cell that a walk reaches is the one it reached before, or the fresh one
   where_is : (w b : ℕ) → w < 256 → b ≤ 65536
       → (reach ds (head_of gs w) b ≡ reach cs (head_of hs w) b)
-      ⊎ ((w ≡ v) × (above cs before ≤ b) × (b ≤ o) × (reach ds (head_of gs w) b ≡ used))
+      ⊎ ((w ≡ v) × (above cs before ≤ b) × (b ≤ o) × (reach ds (head_of gs w) b ≡ Some used))
   where_is w b hw hb = ⊎_elim
       (λ e. ⊎_elim
       (λ l. inl (rw e (row_low b l)))
@@ -110,12 +108,12 @@ module _ (cs ds : List Cell) (hs gs : List ℕ) (used v o before after : ℕ)
       (λ e.
       let same = old_object w b hw hb e in
       let p = sound.rising w hw b hb in
-      (omega arith, λ ne. let q = p.1 (λ z. ne (e ∙ z)) in omega arith))
-      (λ f. let same = ap (object_of ds) f.3 ∙ spliced.object in omega arith)
+      (omega arith, λ j is. let q = p.1 j (sym e ∙ is) in omega arith))
+      (λ f. let same = ap (object_of ds) f.3 ∙ spliced.object in (omega arith, λ j is. let fresh : used ≡ j = some_same (sym f.3 ∙ is) in omega arith))
       (where_is w b hw hb)
 
   one_cell : (w x a b : ℕ) → w < 256 → x < 256 → a ≤ 65536 → b ≤ 65536
-      → reach ds (head_of gs w) a ≡ reach ds (head_of gs x) b → (reach ds (head_of gs w) a ≡ end → ⊥) → w ≡ x
+      → reach ds (head_of gs w) a ≡ reach ds (head_of gs x) b → (reach ds (head_of gs w) a ≡ None → ⊥) → w ≡ x
   one_cell w x a b hw hx ha hb e ne = ⊎_elim
       (λ p. ⊎_elim
       (λ q. sound.apart w x a b hw hx ha hb (sym p ∙ e ∙ q) (λ z. ne (p ∙ z)))

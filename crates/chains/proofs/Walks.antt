@@ -1,20 +1,17 @@
 -- What a walk along a row tells of its objects.
-use Rattle.std.proofs.Common.{◌≡◌, ℕ, ◌+◌, ◌<◌, ◌≤◌, true, false, List, ap, ◌∙◌, arith}
+use Rattle.std.proofs.Common.{◌≡◌, ℕ, ◌+◌, ◌<◌, ◌≤◌, true, false, None, Option, List, ap, ◌∙◌, arith}
 use Rattle.std.proofs.lemmas.Bool.{eq-eqb, ne_eqb}
 use Rattle.chains.specs.declared.Cell.{Cell}
 use Rattle.constraints.specs.Finite.{count}
-use Rattle.chains.specs.Cells.{end, cell_at, link_of, object_of, reach, above, in_row}
+use Rattle.chains.specs.Cells.{link_of, object_of, reach, above, in_row}
 use Rattle.rows.proofs.Counts.{count_yes, count_skip}
 use Rattle.chains.proofs.Reach.{object_end, above_cell, stays, goes_on}
 
-pub object_cell : (cs : List Cell) (i : ℕ) → (i ≡ end → ⊥) → object_of cs i ≡ (cell_at cs i).object
-object_cell cs i ne = rw (ne_eqb i end ne)
-
-module _ (cs : List Cell) (h : ℕ) where
+module _ (cs : List Cell) (h : Option ℕ) where
   -- one cell on
-  pub place_step : (o before after : ℕ) → reach cs h (above cs before) ≡ after → (after ≡ end → ⊥)
+  pub place_step : (o : ℕ) (before after : Option ℕ) → reach cs h (above cs before) ≡ after → (after ≡ None → ⊥)
       → above cs before ≤ object_of cs after → object_of cs after < o
-      → (above cs after ≤ o) × (reach cs h (above cs after) ≡ link_of cs after) × ((after ≡ end → ⊥) → reach cs h (object_of cs after) ≡ after)
+      → (above cs after ≤ o) × (reach cs h (above cs after) ≡ link_of cs after) × ((after ≡ None → ⊥) → reach cs h (object_of cs after) ≡ after)
   place_step o before after at ne le less =
       let up = above_cell cs after ne in
       let same = ap (object_of cs) at in (
@@ -40,7 +37,7 @@ module _ (cs : List Cell) (h : ℕ) where
       let k = object_of cs (reach cs h a) in
       count_yes (in_row cs h) k (row_here a le) ∙ ap (λ n. n + 1) (count_skip (in_row cs h) a k le (row_gap a))
 
-  pub count_end : (a : ℕ) → a ≤ 256 → reach cs h a ≡ end → count 256 (in_row cs h) ≡ count a (in_row cs h)
+  pub count_end : (a : ℕ) → a ≤ 256 → reach cs h a ≡ None → count 256 (in_row cs h) ≡ count a (in_row cs h)
   count_end a le at =
       let far = object_end cs (reach cs h a) at in
       count_skip (in_row cs h) a 256 le (λ k l m. row_gap a k l (omega arith))

@@ -4,9 +4,9 @@ use Rattle.chains.specs.Cells.{object_of, reach, in_row}
 use Rattle.chains.proofs.length_of.Given as goal
 
 -- the objects below lo are counted, and passed
-abbrev pub invariant-loop-at : goal.invariant-loop-at
-invariant-loop-at l =
-    (lo : ℕ) × (lo ≤ 256) × (reach l.cells l.head lo ≡ l.at) × (l.n ≡ count lo (in_row l.cells l.head))
+abbrev pub invariant-loop-next : goal.invariant-loop-next
+invariant-loop-next l =
+    (lo : ℕ) × (lo ≤ 256) × (reach l.cells l.fn.head lo ≡ l.next) × (l.n ≡ count lo (in_row l.cells l.fn.head))
 
-abbrev pub decreases-loop-at : goal.decreases-loop-at
-decreases-loop-at l = 65536 - object_of l.cells l.at
+abbrev pub decreases-loop-next : goal.decreases-loop-next
+decreases-loop-next l = 65536 - object_of l.cells l.next
