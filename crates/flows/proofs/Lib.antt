@@ -1,4 +1,5 @@
 pub mod Scans
+pub mod Names
 pub mod Opening
 pub mod Putting
 pub mod Walks

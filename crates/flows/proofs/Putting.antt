@@ -1,9 +1,9 @@
 -- Sources as columns, put bit by bit.
-use Rattle.std.proofs.Common.{◌≡◌, ℕ, zero, suc, ◌+◌, ◌-◌, ◌*◌, ◌/◌, ◌%◌, ◌^◌, ◌<◌, ◌≤◌, Bool, true, false, ◌&&◌, ◌||◌, eqb, ltb, ◌⊎◌, List, get_or, sym, refl, ap, ◌∙◌, subst, inl, inr, arith}
+use Rattle.std.proofs.Common.{◌≡◌, ℕ, ◌+◌, ◌-◌, ◌*◌, ◌/◌, ◌%◌, ◌<◌, ◌≤◌, Bool, true, false, ◌&&◌, ◌||◌, eqb, ltb, ◌⊎◌, List, get_or, sym, refl, ap, ap₂, ◌∙◌, subst, inl, inr, arith}
 use Rattle.std.proofs.lemmas.Bool.{cases_eq, cases_lt, eq-eqb, ne_eqb, lt-ltb, le-ltb}
 use Rattle.graphs.specs.Matrix.{bit_at, Put}
-use Rattle.constraints.specs.Constraint.{kind, left, offset, right, decode, of_kind}
-use Rattle.constraints.specs.Merge.{copies, object, row, loaded, same_source, brings}
+use Rattle.constraints.specs.declared.constraint.Constraint.TheVariants.{Address as address, Load as load}
+use Rattle.constraints.specs.Merge.{object, row, loaded, same_source, brings}
 use Rattle.flows.proofs.Opening.{or_none}
 use Rattle.flows.specs.Columns.{source_at}
 
@@ -91,43 +91,15 @@ put_bit n m m' p x u c put small =
       | inr ne ↦ rw (ne_eqb p u ne) (put.row u c small (λ g. ne (sym g)) ∙ or_none (bit_at n m u c))
     ]
 
-module _ (w : ℕ) (fits : w < 2 ^ 32) (u v : ℕ) where
-  pub copies_copy : w / 1073741824 ≡ 1 → (eqb (right w) u && eqb (left w) v) ≡ copies u v (decode w)
-  unfolding decode
-  copies_copy e = let k : kind w ≡ 1 = omega arith in rw k
+-- a source is brought where its bit is put: the bit of variable u and column c, put at variable v and column x
+pub brings_address : (p o v x u c : ℕ) → v ≡ p → x ≡ o → o < 256 → (eqb v u && eqb x c) ≡ brings (source_at c) u (address p o)
+brings_address p o v x u c at column small =
+    ap₂ (λ y z. eqb y u && eqb z c) at column ∙ ap (λ b. eqb p u && b) (sym (column_object o c small))
 
-  no_copy : (n : ℕ) → (n ≡ 1 → ⊥) → false ≡ copies u v (of_kind n (left w) (offset w) (right w))
-  no_copy zero a = refl
-  no_copy (suc zero) a = absurd (a refl)
-  no_copy (suc (suc zero)) a = refl
-  no_copy (suc (suc (suc n))) a = refl
-
-  pub copies_none : (w / 1073741824 ≡ 1 → ⊥) → false ≡ copies u v (decode w)
-  unfolding decode
-  copies_none a = no_copy (kind w) (λ e. a (omega arith))
-
-module _ (w : ℕ) (fits : w < 2 ^ 32) (l : left w < 256) (r : right w < 256) (u c : ℕ) where
-  pub brings_address : w / 1073741824 ≡ 0 → (eqb (left w) u && eqb (right w) c) ≡ brings (source_at c) u (decode w)
-  unfolding decode
-  brings_address e =
-      let k : kind w ≡ 0 = omega arith in
-      rw k (ap (λ b. eqb (left w) u && b) (sym (column_object (right w) c r)))
-
-  pub brings_load : w / 1073741824 ≡ 2 → (eqb (left w) u && eqb (512 + 8 * right w + offset w) c) ≡ brings (source_at c) u (decode w)
-  unfolding decode
-  brings_load e =
-      let k : kind w ≡ 2 = omega arith in
-      rw k (ap (λ b. eqb (left w) u && b) (sym (column_loaded (right w) (offset w) c r (omega arith))))
-
-  no_source : (n : ℕ) → (n ≡ 0 → ⊥) → (n ≡ 2 → ⊥) → false ≡ brings (source_at c) u (of_kind n (left w) (offset w) (right w))
-  no_source zero a b = absurd (a refl)
-  no_source (suc zero) a b = refl
-  no_source (suc (suc zero)) a b = absurd (b refl)
-  no_source (suc (suc (suc n))) a b = refl
-
-  pub brings_none : (w / 1073741824 ≡ 0 → ⊥) → (w / 1073741824 ≡ 2 → ⊥) → false ≡ brings (source_at c) u (decode w)
-  unfolding decode
-  brings_none a b = no_source (kind w) (λ e. a (omega arith)) (λ e. b (omega arith))
+pub brings_load : (p q k v x u c : ℕ) → v ≡ p → x ≡ 512 + 8 * q + k → q < 256 → k < 8
+    → (eqb v u && eqb x c) ≡ brings (source_at c) u (load p q k)
+brings_load p q k v x u c at column small slot =
+    ap₂ (λ y z. eqb y u && eqb z c) at column ∙ ap (λ b. eqb p u && b) (sym (column_loaded q k c small slot))
 
 pub row_put : (m m' : List ℕ) (v u c : ℕ) → v < 256 → Put 80 m m' v (256 + v) → c < 2560
     → bit_at 80 m' u c ≡ (bit_at 80 m u c || (eqb v u && same_source (row v) (source_at c)))

@@ -1,3 +1,4 @@
 pub mod Columns
 pub mod Opens
+pub mod Names
 pub mod Inside

@@ -7,4 +7,4 @@ mod stand;
 
 pub use copies::copy_reach;
 pub use opened::find_open;
-pub use stand::put_sources;
+pub use stand::{Stand, put_sources};

@@ -1,72 +1,60 @@
 // Sources as bits, at the variables where they stand.
-ghost use Rattle.std.specs.Prelude.{◌≡◌, ℕ, ◌<◌, ◌≤◌, Bool, false, ◌&&◌, ◌||◌, length, ◌==◌, slice_index_or};
+ghost use Rattle.std.specs.Prelude.{◌≡◌, ℕ, ◌<◌, Bool, false, ◌&&◌, ◌||◌, slice_index_or};
 ghost use Rattle.graphs.specs.Matrix.{bit_at};
-ghost use Rattle.constraints.specs.Constraint.{left, right, decode};
-ghost use Rattle.constraints.specs.Merge.{is_open, same_source, row, brings};
+ghost use Rattle.constraints.specs.Merge.{same_source, row, brings};
 ghost use Rattle.constraints.specs.Lists.{system_of};
 ghost use Rattle.flows.specs.Columns.{source_at, StandBits};
+ghost use Rattle.flows.specs.Names.{NamesBelow};
 
 use crate::opened::find_open;
-use constraints::ConstraintList;
+use constraints::{Constraint, ConstraintList};
+use graphs::bits::BitMatrix;
 
-// Puts the row of v, if v is open.
-fn put_row(open: bool, v: usize, stand: &mut [u32])
-    requires inside { v < 256 }
-    requires long { 20480 ≤ length stand.old }
-    ensures { (u c : ℕ) → u < 256 → c < 2560 → bit_at 80 stand.new u c ≡ (bit_at 80 stand.old u c || («open» && (v == u && same_source (row v) (source_at c)))) }
-{
-    if open {
-        graphs::bits::put(stand, 80, v, 256 + v);
-    }
-}
+// 256 rows of 2,560 columns, one for each source.
+pub type Stand = BitMatrix<80, 20480>;
 
 // Puts the row of each open variable.
-fn put_open(flags: &[bool], stand: &mut [u32])
-    requires flags { length flags.now ≡ 256 }
-    requires long { 20480 ≤ length stand.old }
-    ensures { (u c : ℕ) → u < 256 → c < 2560 → bit_at 80 stand.new u c ≡ (slice_index_or flags.now u false && same_source (row u) (source_at c)) }
+fn put_open(flags: &[bool; 256], stand: &mut Stand)
+    ensures { (u c : ℕ) → u < 256 → c < 2560 → bit_at 80 stand.new.words u c ≡ (slice_index_or flags.now u false && same_source (row u) (source_at c)) }
 {
-    graphs::bits::clear(stand, 20480);
-    for v in 0..256 {
-        put_row(flags[v], v, stand);
+    stand.clear();
+    for (v, is_open) in flags.iter().enumerate() {
+        if *is_open {
+            stand.put(v, 256 + v);
+        }
     }
 }
 
-// Puts the source that the word brings.
-fn put_word(w: u32, stand: &mut [u32])
-    requires left_in { left w < 256 }
-    requires right_in { right w < 256 }
-    requires long { 20480 ≤ length stand.old }
-    ensures { (u c : ℕ) → u < 256 → c < 2560 → bit_at 80 stand.new u c ≡ (bit_at 80 stand.old u c || brings (source_at c) u (decode w)) }
+// Puts the source that the constraint brings.
+fn put_brought(constraint: Constraint, stand: &mut Stand)
+    requires { NamesBelow 256 constraint }
+    ensures { (u c : ℕ) → u < 256 → c < 2560 → bit_at 80 stand.new.words u c ≡ (bit_at 80 stand.old.words u c || brings (source_at c) u constraint) }
 {
-    let p = ((w >> 12) % 4096) as usize;
-    let q = (w % 4096) as usize;
-    if w >> 30 == 0 {
-        graphs::bits::put(stand, 80, p, q);
-    } else if w >> 30 == 2 {
-        graphs::bits::put(stand, 80, p, 512 + 8 * q + ((w >> 27) % 8) as usize);
-    }
-}
-
-// Puts the rows of open variables and the sources of the words.
-fn put_all(list: &ConstraintList, flags: &[bool], stand: &mut [u32])
-    requires flags { length flags.now ≡ 256 }
-    requires opened { (v : ℕ) → slice_index_or flags.now v false ≡ is_open (system_of list.now) v }
-    requires long { 20480 ≤ length stand.old }
-    ensures { StandBits (system_of list.now) stand.new }
-{
-    let words = list.words();
-    put_open(flags, stand);
-    for i in 0..words.len() {
-        put_word(words[i], stand);
+    match constraint {
+        Constraint::Address { left, object } => {
+            stand.put(usize::from(left), usize::from(object));
+        }
+        Constraint::Load {
+            left,
+            right,
+            offset,
+        } => {
+            let column = 512 + 8 * usize::from(right) + usize::from(offset);
+            stand.put(usize::from(left), column);
+        }
+        Constraint::Copy { .. } | Constraint::Store { .. } => {}
     }
 }
 
 // Puts each source at the variables where it stands.
-pub fn put_sources(list: &ConstraintList, stand: &mut [u32; 20480])
-    ensures { StandBits (system_of list.now) stand.new }
+pub fn put_sources(list: &ConstraintList, stand: &mut Stand)
+    ensures { StandBits (system_of list.now) stand.new.words }
 {
     let mut flags = [false; 256];
     find_open(list, &mut flags);
-    put_all(list, &flags, stand);
+    put_open(&flags, stand);
+    let words = list.words();
+    for word in words {
+        put_brought(Constraint::decode(*word), stand);
+    }
 }

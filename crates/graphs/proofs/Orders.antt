@@ -1,6 +1,5 @@
 -- Insertion keeps the order.
-use Rattle.std.proofs.Common.{◌≡◌, ℕ, ◌+◌, ◌-◌, ◌<◌, ◌≤◌, Bool, true, not, ◌≢◌, ◌⊎◌, List, length, get_or, set, sym, refl, ap, ◌∙◌, subst, subst₂, inl, inr, ⊎_elim, arith}
-use Rattle.std.proofs.lemmas.List.{get_or-set_same, get_or-set_other}
+use Rattle.std.proofs.Common.{◌≡◌, ℕ, ◌+◌, ◌-◌, ◌<◌, ◌≤◌, Bool, true, not, ◌≢◌, ◌⊎◌, List, get_or, sym, refl, ap, ◌∙◌, subst, subst₂, inl, inr, ⊎_elim, arith}
 use Rattle.std.proofs.lemmas.Bool.{cases_eq, cases_lt, cases_order, and_parts, and_from, not-true, not_from_false, both_ways, cases_Bool}
 use Rattle.graphs.specs.Matrix.{bit}
 use Rattle.graphs.specs.Paths.{Reaches, Closure}
@@ -8,42 +7,6 @@ use Rattle.graphs.specs.Order.{Above, Arranged, above, FirstBelow, Inserted}
 use Rattle.graphs.proofs.Closing.{reaches_append}
 
 -- ---- one insertion
-
--- the places from p up to k are moved, and carry is what comes to place k
-pub record Inserting (xs₀ xs : List ℕ) (p x k carry : ℕ) : Type 0 where
-  pub before : (i : ℕ) → i < p → get_or xs i 0 ≡ get_or xs₀ i 0
-  pub start : k ≡ p → carry ≡ x
-  pub here : p < k → get_or xs p 0 ≡ x
-  pub after : (i : ℕ) → p < i → i < k → get_or xs i 0 ≡ get_or xs₀ (i - 1) 0
-  pub next : p < k → carry ≡ get_or xs₀ (k - 1) 0
-  pub rest : (i : ℕ) → k ≤ i → get_or xs i 0 ≡ get_or xs₀ i 0
-
-pub inserting_more : (xs₀ xs : List ℕ) (p x k carry : ℕ) → p ≤ k → k < length xs → Inserting xs₀ xs p x k carry
-    → Inserting xs₀ (set xs k carry) p x (k + 1) (get_or xs k 0)
-inserting_more xs₀ xs p x k carry hp hk i =
-    let now = get_or-set_same xs k carry 0 hk in
-    record {
-      before = λ j h. get_or-set_other xs k j carry 0 (omega arith) ∙ i.before j h;
-      start = λ e. absurd (omega arith);
-      here = λ _. ⊎_elim
-          (λ e. ap (λ q. get_or (set xs k carry) q 0) e ∙ now ∙ i.start (sym e))
-          (λ ne. get_or-set_other xs k p carry 0 ne ∙ i.here (omega arith))
-          (cases_eq p k);
-      after = λ j h l. ⊎_elim
-          (λ e. ap (λ q. get_or (set xs k carry) q 0) e ∙ now ∙ i.next (omega arith) ∙ ap (λ q. get_or xs₀ (q - 1) 0) (sym e))
-          (λ ne. get_or-set_other xs k j carry 0 ne ∙ i.after j h (omega arith))
-          (cases_eq j k);
-      next = λ _. i.rest k (omega arith) ∙ ap (λ q. get_or xs₀ q 0) (omega arith);
-      rest = λ j h. get_or-set_other xs k j carry 0 (omega arith) ∙ i.rest j (omega arith);
-    }
-
-pub inserting_all : (xs₀ xs : List ℕ) (n p x carry : ℕ) → p ≤ n → Inserting xs₀ xs p x (n + 1) carry → Inserted xs₀ xs n p x
-inserting_all xs₀ xs n p x carry h i = record {
-  before = i.before;
-  here = i.here (omega arith);
-  after = λ k hk l. i.after k hk (omega arith);
-  rest = λ k hk. i.rest k (omega arith);
-}
 
 -- the places still hold nodes
 pub nodes_more : (xs xs' : List ℕ) (n p : ℕ) → p ≤ n → ((k : ℕ) → k < n → get_or xs k 0 < n) → Inserted xs xs' n p n

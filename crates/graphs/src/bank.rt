@@ -5,7 +5,7 @@ ghost use Rattle.numbering.proofs.Lists.{lists_equivalence, lists_alike};
 ghost use Rattle.graphs.specs.Matrix.{row_at};
 ghost use Rattle.graphs.specs.Keys.{SameRows};
 
-use numbering::{KeyBank, hash_words, number};
+use numbering::{KeyBank, hash_items, number};
 
 // The rows of a matrix of words: same rows have same words.
 #[derive(Drop)]
@@ -41,7 +41,7 @@ impl<'a> KeyBank for Rows<'a> {
     }
 
     fn hash(&self, i: usize) -> u32 {
-        hash_words(self.row(i))
+        hash_items(self.row(i))
     }
 
     fn is_same(&self, i: usize, j: usize) -> bool {
@@ -56,6 +56,6 @@ pub fn number_rows(words: &[u32], width: usize, first: &mut [u16])
     requires long { length words.now / width ≤ length first.old }
     ensures { SameRows width words.now first.new }
 {
-    let mut links = [0; 512];
+    let mut links = [None; 512];
     number(&Rows { words, width }, first, &mut links);
 }

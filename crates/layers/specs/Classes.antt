@@ -25,6 +25,16 @@ pub record Named (reps words : List ℕ) : Type 0 where
 abbrev pub replacing : List ℕ → ℕ → ℕ
 replacing reps v = slice_index reps v
 
--- u is of the class of v, and open or plain as asked
+-- v is of the class, and open or plain as given
 abbrev pub Peer : List Bool → List ℕ → Bool → ℕ → ℕ → Type 0
-Peer flags class asked v u = (slice_index_or flags u false ≡ asked) × (slice_index class u ≡ slice_index class v)
+Peer flags class is_open number v = (slice_index_or flags v false ≡ is_open) × (slice_index class v ≡ number)
+
+-- no number below n has P
+abbrev pub NoneBelow : ℕ → (ℕ → Type 0) → Type 0
+NoneBelow n P = (j : ℕ) → j < n → P j → ⊥
+
+-- f is the lowest number below n with P
+pub record LowestBelow (n : ℕ) (P : ℕ → Type 0) (f : ℕ) : Type 0 where
+  pub inside : f < n
+  pub has : P f
+  pub least : NoneBelow f P

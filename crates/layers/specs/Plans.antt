@@ -1,5 +1,6 @@
 -- What a layer has worked out before it hands down, and what its promises rest on.
-use Rattle.std.specs.Prelude.{◌≡◌, ℕ, ◌<◌, ◌≤◌, Bool, true, cond, List, [], length, take, Some, None, Option, nat_lt, slice_index}
+use Rattle.std.specs.Prelude.{◌≡◌, ℕ, ◌<◌, Bool, true, cond, List, [], Some, None, Option, nat_lt, slice_index}
+use Rattle.arrayvec.specs.ArrayVec.{array_vec_len}
 use Rattle.constraints.specs.Constraint.{System, var_count}
 use Rattle.constraints.specs.Lists.{system_of}
 use Rattle.constraints.specs.Reduced.{replaced}
@@ -10,21 +11,19 @@ use Rattle.layers.specs.declared.plan.Plan.{Plan}
 
 -- representatives and the reduced list
 pub record Prepared (same : Classing) (p : Plan) : Type 0 where
-  pub told : Representatives (system_of p.own) (same (system_of p.own)) p.reps
-  pub within : (v : ℕ) → v < var_count (system_of p.own) → slice_index p.reps v < var_count (system_of p.own)
-  pub covers : var_count (system_of p.own) ≤ length p.reps
-  pub counted : p.count ≤ 512
-  pub listed : take p.count p.remaining ≡ (handed same (system_of p.own)).words
+  pub told : Representatives (system_of p.own) (same (system_of p.own)) p.reps.items
+  pub within : (v : ℕ) → v < var_count (system_of p.own) → slice_index p.reps.items v < var_count (system_of p.own)
+  pub covers : array_vec_len p.reps ≡ var_count (system_of p.own)
+  pub listed : p.remaining.items ≡ (handed same (system_of p.own)).words
 
 -- while a layer is settled, the engine below holds the reduced list
-pub record Handed (sound : Type 0) (below : Meaning) (same : Classing) (p : Plan) : Type 0 where
-  pub keeps : sound
+pub record Handed (below : Meaning) (same : Classing) (p : Plan) : Type 0 where
   pub holds : below.system ≡ handed same (system_of p.own)
   pub answers : below.settled ≡ true
   pub ready : Prepared same p
 
-abbrev pub LayerSound : Bool → Type 0 → Meaning → Classing → Plan → Type 0
-LayerSound settled sound below same p = settled ≡ true → Handed sound below same p
+abbrev pub LayerSound : Bool → Meaning → Classing → Plan → Type 0
+LayerSound settled below same p = settled ≡ true → Handed below same p
 
 -- how many variables a layer has replaced
 abbrev pub replaced_count : Classing → Bool → System → ℕ

@@ -1,20 +1,22 @@
 // A layer over any engine, by any classes of variables.
-ghost use Rattle.std.specs.Prelude.{◌≡◌, ℕ, ◌<◌, ◌≤◌, Bool, false, not, length, take, if◌then◌else◌, Ok, ◌==◌, slice_index};
+ghost use Rattle.std.specs.Prelude.{◌≡◌, ℕ, ◌<◌, ◌≤◌, Bool, false, not, cond, length, nat_lt, Ok, Err, ◌==◌, slice_index};
 ghost use Rattle.constraints.specs.Finite.{count};
-ghost use Rattle.constraints.specs.Constraint.{Valid};
+ghost use Rattle.constraints.specs.Constraint.{Valid, var_count};
 ghost use Rattle.constraints.specs.Reduced.{replaced};
 ghost use Rattle.constraints.specs.Theorems.{LayerIsRight};
 ghost use Rattle.constraints.specs.Lists.{system_of, no_words};
-ghost use Rattle.engine.specs.Meanings.{gathering};
-ghost use Rattle.engine.specs.declared.fault.EngineFault.TheVariants.{NoRoom};
+ghost use Rattle.engine.specs.Meanings.{gathering, answer};
+ghost use Rattle.engine.specs.declared.fault.EngineFault.TheVariants.{NoRoom, Settled};
 ghost use Rattle.engine.specs.declared.fault.Overflow.{Overflow};
 ghost use Rattle.layers.specs.Classes.{Numbers, Named, Representatives};
 ghost use Rattle.layers.specs.Layered.{Classing, rep_by, raised, layered, layer_roomy};
 ghost use Rattle.layers.specs.Plans.{Prepared, LayerSound, replaced_count, stands_for, handed_words};
+ghost use Rattle.arrayvec.specs.ArrayVec.{array_vec_len};
 
 use crate::plan::Plan;
 use crate::reduce::{earliest, reduce};
-use crate::represent::represent;
+use crate::represent::Classes;
+use arrayvec::ArrayVec;
 use constraints::ConstraintList;
 use engine::{Engine, EngineFault, Overflow, hand_down};
 use flows::find_open;
@@ -36,26 +38,30 @@ fn prepare<M: Merge>(merge: &mut M, plan: &mut Plan)
     ensures own { plan.new.own ≡ plan.old.own }
     ensures ready { Prepared M.Merge.same plan.new }
 {
-    let mut flags = [false; 256];
-    let mut class = [0u16; 256];
-    find_open(&plan.own, &mut flags);
+    let mut is_open = [false; 256];
+    let mut class = [0; 256];
+    find_open(&plan.own, &mut is_open);
     merge.classify(&plan.own, &mut class);
-    let n = plan.own.variables();
-    represent(&flags, &class, n, &mut plan.reps);
-    plan.count = reduce(&plan.reps[..n], plan.own.words(), &mut plan.remaining);
+    let count = plan.own.variables();
+    let classes = Classes {
+        is_open,
+        class,
+        count,
+    };
+    classes.represent(&mut plan.reps);
+    reduce(&plan.reps, plan.own.words(), &mut plan.remaining);
 }
 
 // A fault from below, as this layer tells it.
 fn raise(fault: EngineFault, plan: &Plan) -> EngineFault
-    requires named { Named (take plan.now.own.width plan.now.reps) (system_of plan.now.own).words }
-    requires counted { plan.now.count ≤ 512 }
-    requires within { (o : Overflow) → fault ≡ NoRoom o → o.position < plan.now.count }
+    requires named { Named plan.now.reps.items (system_of plan.now.own).words }
+    requires within { (o : Overflow) → fault ≡ NoRoom o → o.position < array_vec_len plan.now.remaining }
     ensures { (same : Classing) → Prepared same plan.now → result ≡ raised same (system_of plan.now.own) fault }
 {
     match fault {
         EngineFault::NoRoom(o) => {
-            let reps = &plan.reps[..plan.own.variables()];
-            let own = earliest(reps, plan.own.words(), plan.remaining[o.position as usize]);
+            let word = plan.remaining[usize::from(o.position)];
+            let own = earliest(&plan.reps, plan.own.words(), word);
             EngineFault::NoRoom(Overflow {
                 position: own as u16,
                 depth: o.depth.saturating_add(1),
@@ -68,20 +74,11 @@ fn raise(fault: EngineFault, plan: &Plan) -> EngineFault
 
 // Hands the plan's blocks and reduced list to the engine below.
 fn hand_plan<E: Engine>(below: &mut E, plan: &Plan) -> Result<(), EngineFault>
-    requires counted { plan.now.count ≤ 512 }
-    requires valid { Valid (record { blocks = (system_of plan.now.own).blocks; words = take plan.now.count plan.now.remaining }) }
+    requires { Valid (record { blocks = (system_of plan.now.own).blocks; words = plan.now.remaining.items }) }
     ensures done { result ≡ Ok tt }
-    ensures after { E.meaning below.new ≡ gathering (E.meaning below.old) (record { blocks = (system_of plan.now.own).blocks; words = take plan.now.count plan.now.remaining }) }
-    ensures keeps { E.sound below.new }
+    ensures after { E.meaning below.new ≡ gathering (E.meaning below.old) (record { blocks = (system_of plan.now.own).blocks; words = plan.now.remaining.items }) }
 {
-    hand_down(below, plan.own.blocks(), &plan.remaining[..plan.count])
-}
-
-fn is_replaced(reps: &[u16], v: usize) -> u16
-    requires { v < length reps.now }
-    ensures { result ≡ (if not (slice_index reps.now v == v) then 1 else 0) }
-{
-    if reps[v] as usize == v { 0 } else { 1 }
+    hand_down(below, plan.own.blocks(), &plan.remaining)
 }
 
 // How many of the variables have another representative.
@@ -89,18 +86,11 @@ fn count_replaced(reps: &[u16]) -> u16
     requires { length reps.now ≤ 256 }
     ensures { result ≡ count (length reps.now) (λ v. not (slice_index reps.now v == v)) }
 {
-    let mut n: u16 = 0;
-    for v in 0..reps.len() {
-        n += is_replaced(reps, v);
+    let mut n = 0;
+    for (v, rep) in reps.iter().enumerate() {
+        n += u16::from(usize::from(*rep) != v);
     }
     n
-}
-
-// How many of the plan's variables are replaced.
-fn replaced_by(plan: &Plan) -> u16
-    ensures { (same : Classing) → Representatives (system_of plan.now.own) (same (system_of plan.now.own)) plan.now.reps → result ≡ replaced (rep_by same (system_of plan.now.own)) (system_of plan.now.own) }
-{
-    count_replaced(&plan.reps[..plan.own.variables()])
 }
 
 #[derive(Drop)]
@@ -109,19 +99,18 @@ pub struct Merging<M: Merge, E: Engine> {
     below: E,
     plan: Plan,
     settled: bool,
+    ghost handed: { LayerSound settled (E.Engine.meaning below) M.Merge.same plan },
 }
 
 impl<M: Merge, E: Engine> Merging<M, E> {
     // Empty and gathering, over an engine in any state.
     pub fn new(merge: M, below: E) -> Self
-        ensures meaning { layered M.Merge.same (E.meaning result.below) (system_of result.plan.own) result.settled ≡ layered M.Merge.same (E.meaning below) no_words false }
-        ensures safe { LayerSound result.settled (E.sound result.below) (E.meaning result.below) M.Merge.same result.plan }
+        ensures { layered M.Merge.same (E.meaning result.below) (system_of result.plan.own) result.settled ≡ layered M.Merge.same (E.meaning below) no_words false }
     {
         let plan = Plan {
             own: ConstraintList::new(),
-            reps: [0; 256],
-            remaining: [0; 512],
-            count: 0,
+            reps: ArrayVec::new(),
+            remaining: ArrayVec::new(),
         };
         Merging {
             merge,
@@ -131,72 +120,77 @@ impl<M: Merge, E: Engine> Merging<M, E> {
         }
     }
 
-    // How many variables are replaced, 0 while gathering.
-    pub fn replaced(&self) -> u16
-        ensures { LayerSound self.now.settled (E.sound self.now.below) (E.meaning self.now.below) M.Merge.same self.now.plan → result ≡ replaced_count M.Merge.same self.now.settled (system_of self.now.plan.own) }
+    // Whether the list may still change.
+    fn gathering(&self) -> Result<(), EngineFault>
+        ensures { result ≡ cond self.now.settled (Err Settled) (Ok tt) }
+    {
+        if self.settled {
+            Err(EngineFault::Settled)
+        } else {
+            Ok(())
+        }
+    }
+
+    // The variable that stands for v, where a question about v is answered.
+    fn admit(&self, v: u16) -> Result<u16, EngineFault>
+        ensures { result ≡ answer (layered M.Merge.same (E.meaning self.now.below) (system_of self.now.plan.own) self.now.settled) (nat_lt v (var_count (system_of self.now.plan.own))) (rep_by M.Merge.same (system_of self.now.plan.own) v) }
     {
         if !self.settled {
-            return 0;
+            return Err(EngineFault::Gathering);
         }
-        replaced_by(&self.plan)
+        let rep = self.plan.reps.get(usize::from(v));
+        rep.copied().ok_or(EngineFault::Outside)
+    }
+
+    // How many variables are replaced, 0 while gathering.
+    pub fn replaced(&self) -> u16
+        ensures { result ≡ replaced_count M.Merge.same self.now.settled (system_of self.now.plan.own) }
+    {
+        if self.settled {
+            count_replaced(&self.plan.reps)
+        } else {
+            0
+        }
     }
 
     // The variable that stands for v, once settled.
     pub fn representative(&self, v: u16) -> Option<u16>
-        ensures { LayerSound self.now.settled (E.sound self.now.below) (E.meaning self.now.below) M.Merge.same self.now.plan → result ≡ stands_for M.Merge.same self.now.settled (system_of self.now.plan.own) v }
+        ensures { result ≡ stands_for M.Merge.same self.now.settled (system_of self.now.plan.own) v }
     {
-        if !self.settled {
-            return None;
-        }
-        if v as usize >= self.plan.own.variables() {
-            return None;
-        }
-        Some(self.plan.reps[v as usize])
+        self.admit(v).ok()
     }
 
     // The words handed down, once settled; none while gathering.
     pub fn handed(&self) -> &[u32]
-        ensures { LayerSound self.now.settled (E.sound self.now.below) (E.meaning self.now.below) M.Merge.same self.now.plan → result.now ≡ handed_words M.Merge.same self.now.settled (system_of self.now.plan.own) }
+        ensures { result.now ≡ handed_words M.Merge.same self.now.settled (system_of self.now.plan.own) }
     {
-        let n = if self.settled {
-            self.plan.count.min(512)
-        } else {
-            0
-        };
-        &self.plan.remaining[..n]
+        let words = self.plan.remaining.as_slice();
+        if self.settled { words } else { &words[..0] }
     }
 }
 
 impl<M: Merge, E: Engine> Engine for Merging<M, E> {
     ghost meaning = { λ s. layered M.Merge.same (E.Engine.meaning s.below) (system_of s.plan.own) s.settled };
 
-    ghost sound = { λ s. LayerSound s.settled (E.Engine.sound s.below) (E.Engine.meaning s.below) M.Merge.same s.plan };
-
     ghost roomy = { λ s. layer_roomy M.Merge.same (E.Engine.meaning s.below).rule M.Merge.right (E.Engine.roomy s.below) };
 
     fn clear(&mut self) {
-        self.plan.own.clear();
         self.settled = false;
+        self.plan.own.clear();
     }
 
     fn block(&mut self, n: u8) -> Result<u16, EngineFault> {
-        if self.settled {
-            return Err(EngineFault::Settled);
-        }
+        self.gathering()?;
         Ok(self.plan.own.block(n)?)
     }
 
     fn add(&mut self, word: u32) -> Result<(), EngineFault> {
-        if self.settled {
-            return Err(EngineFault::Settled);
-        }
+        self.gathering()?;
         Ok(self.plan.own.add(word)?)
     }
 
     fn settle(&mut self) -> Result<(), EngineFault> {
-        if self.settled {
-            return Err(EngineFault::Settled);
-        }
+        self.gathering()?;
         prepare(&mut self.merge, &mut self.plan);
         hand_plan(&mut self.below, &self.plan)?;
         match self.below.settle() {
@@ -209,36 +203,18 @@ impl<M: Merge, E: Engine> Engine for Merging<M, E> {
     }
 
     fn holds(&mut self, v: u16, o: u16) -> Result<bool, EngineFault> {
-        if !self.settled {
-            return Err(EngineFault::Gathering);
-        }
-        if v as usize >= self.plan.own.variables() {
-            return Err(EngineFault::Outside);
-        }
-        let r = self.plan.reps[v as usize];
-        self.below.holds(r, o)
+        let rep = self.admit(v)?;
+        self.below.holds(rep, o)
     }
 
     fn next(&mut self, v: u16, from: u16) -> Result<Option<u16>, EngineFault> {
-        if !self.settled {
-            return Err(EngineFault::Gathering);
-        }
-        if v as usize >= self.plan.own.variables() {
-            return Err(EngineFault::Outside);
-        }
-        let r = self.plan.reps[v as usize];
-        self.below.next(r, from)
+        let rep = self.admit(v)?;
+        self.below.next(rep, from)
     }
 
     fn size(&mut self, v: u16) -> Result<u16, EngineFault> {
-        if !self.settled {
-            return Err(EngineFault::Gathering);
-        }
-        if v as usize >= self.plan.own.variables() {
-            return Err(EngineFault::Outside);
-        }
-        let r = self.plan.reps[v as usize];
-        self.below.size(r)
+        let rep = self.admit(v)?;
+        self.below.size(rep)
     }
 
     fn room(&self) -> u32 {

@@ -8,5 +8,5 @@ returns c =
     let list = c.args.list.now in
     record {
       closure = c.reachable.ensures;
-      reach = closure_bits (system_of list) (list_valid list) c.reachable.new.m c.reachable.ensures;
+      reach = closure_bits (system_of list) (list_valid list) c.reachable.new.m.words c.reachable.ensures;
     }

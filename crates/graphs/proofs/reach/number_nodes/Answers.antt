@@ -4,4 +4,4 @@ use Rattle.graphs.proofs.reach.number_nodes.Goals as goal
 
 pub returns : goal.returns
 returns c edge closure =
-    components_rows edge c.args.m.now closure (λ i. (c.type_inv.m i).fits) c.requires.0 _ (λ u hu. c.number_rows.ensures u (omega arith))
+    components_rows edge c.args.words.now closure c.fits-words (omega arith) _ (λ u hu. c.number_rows.ensures u (omega arith))

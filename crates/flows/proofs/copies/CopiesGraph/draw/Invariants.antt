@@ -6,5 +6,5 @@ use Rattle.graphs.specs.Matrix.{bit}
 use Rattle.flows.proofs.copies.CopiesGraph.draw.Given as goal
 
 -- the edges of the first i words are drawn
-abbrev pub invariant-loop-i : goal.invariant-loop-i
-invariant-loop-i l = (u v : ℕ) → u < 256 → v < 256 → bit l.m u v ≡ any l.i (λ j. copies u v (decode (get_or l.words j 0)))
+abbrev pub invariant-loop-word : goal.invariant-loop-word
+invariant-loop-word l = (u v : ℕ) → u < 256 → v < 256 → bit l.m.words u v ≡ any l.word-index (λ j. copies u v (decode (get_or l.words j 0)))

@@ -1,21 +1,9 @@
-use Rattle.std.proofs.Common.{ap, ◌∙◌, arith}
-use Rattle.constraints.specs.Lists.{system_of}
-use Rattle.layers.specs.Layered.{layered}
-use Rattle.layers.proofs.Delegating.{layer_next, handed_on}
+use Rattle.std.proofs.Common.{◌∙◌}
+use Rattle.layers.proofs.Delegating.{layer_next}
 use Rattle.layers.proofs.merging.MergingEngine.next.Goals as goal
 
-pub returns : goal.returns
-returns g c =
+pub returns-clause-replies : goal.returns-clause-replies
+returns-clause-replies g c =
     let s = c.args.self.now in
-    let same = g.M.Merge.same in
-    let S = g.E.Engine.sound s.below in
-    let m = g.E.Engine.meaning s.below in
-    record {
-      replies = λ sound.
-          let handed = sound c.if-not-self.false in
-          c.next.ensures.replies handed.keeps
-          ∙ layer_next S same g.M.Merge.right m s.plan c.args.v s.settled c.if-not-self.false
-          (omega (arith, c.variables.ensures.value)) handed c.args.from;
-      stays = ap (λ x. layered same x (system_of s.plan.own) s.settled) c.next.ensures.stays;
-      keeps = λ sound is. handed_on S _ m _ same s.plan c.next.ensures.stays c.next.ensures.keeps (sound is);
-    }
+    c.next.ensures.replies
+    ∙ layer_next g.M.Merge.same g.M.Merge.right (g.E.Engine.meaning s.below) s.plan c.args.v c.in_ok-rep.rep s.settled s.handed c.in_ok-rep.ensures c.args.from

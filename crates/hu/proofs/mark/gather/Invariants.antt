@@ -1,9 +1,0 @@
-use Rattle.std.proofs.Common.{◌≡◌, ℕ, ◌<◌, ◌||◌, ◌≢◌}
-use Rattle.graphs.specs.Matrix.{bit_at}
-use Rattle.hu.specs.Marks.{gathered}
-use Rattle.hu.proofs.mark.gather.Given as goal
-
-abbrev pub invariant-loop-u : goal.invariant-loop-u
-invariant-loop-u l =
-    ((c : ℕ) → c < 2560 → bit_at 80 l.marks l.v c ≡ (bit_at 80 l.initial.marks l.v c || gathered l.reach l.stand l.v c l.u))
-    × ((x c : ℕ) → c < 2560 → x ≢ l.v → bit_at 80 l.marks x c ≡ bit_at 80 l.initial.marks x c)
