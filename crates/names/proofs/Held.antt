@@ -1,5 +1,5 @@
 -- For callers: a table's notes as a map, and its variables whatever the order of its records.
-use Rattle.std.proofs.Common.{◌≡◌, ℕ, suc, ◌+◌, ◌<◌, Bool, true, false, cond, ◌⊎◌, List, [], ◌∷◌, length, Some, None, Decides, Option, sym, refl, ap, ◌∙◌, inl, inr, ⊎_elim, arith}
+use Rattle.std.proofs.Common.{◌≡◌, ℕ, suc, ◌+◌, ◌<◌, Bool, true, false, cond, ◌⊎◌, List, [], ◌∷◌, length, Some, Decides, Option, sym, refl, ap, ◌∙◌, inl, inr, ⊎_elim, arith}
 use Rattle.std.specs.Str.{bytes_eq}
 use Rattle.std.proofs.lemmas.Slice.Eq.{bytes_eq-Decides}
 use Rattle.std.proofs.lemmas.List.{length-map}
@@ -7,9 +7,8 @@ use Rattle.names.specs.declared.record.Note.{Note}
 use Rattle.names.specs.declared.record.NameRecord.{NameRecord}
 use Rattle.names.specs.declared.table.NameTable.{NameTable}
 use Rattle.numbering.specs.Keys.{Fresh}
-use Rattle.names.specs.Notes.{name_in, note_of, fresh_note, total, weight, width, listed, Once, Lists, sum_over, then_note, with_note, Updated}
+use Rattle.names.specs.Notes.{name_in, note_of, total, weight, width, listed, Once, Lists, sum_over, with_note}
 use Rattle.names.specs.Index.{key_at, same_key}
-use Rattle.names.specs.Tables.{enters, after_mention, mention_adds}
 use Rattle.names.specs.Held.{held, notes, variables_of}
 use Rattle.names.proofs.Records.{names_of, same_self, not_true, none_parts, fresh_rest, unnoted}
 use Rattle.names.proofs.Sounds.{is_sound}
@@ -76,28 +75,3 @@ pub variables_over : (t : NameTable) (ns : List (List ℕ)) → Lists ns (notes 
 variables_over t ns lists =
     let s = is_sound t.sound in
     total_over width (held t) (λ i h. s.index.fresh i (omega (arith, length-map (held t) name_in))) ns lists
-
--- ---- the variables after a change
-
--- a known name keeps its slots, and an unknown one stays so
-pub variables_kept : (f : Note → Note) → ((k : Note) → (f k).slots ≡ k.slots) → (before after : List NameRecord) (n : List ℕ)
-    → Updated before after n (then_note (λ k. Some (f k)) (note_of before n)) → total width after ≡ total width before
-variables_kept f slots before after n step = omega (arith, step.totals width, as_wide (note_of before n))
-  where
-    as_wide : (o : Option Note) → weight width (then_note (λ k. Some (f k)) o) ≡ weight width o
-    as_wide None = refl
-    as_wide (Some k) = ap (λ s. s + 1) (slots k)
-
-pub variables_mention : (before after : List NameRecord) (n : List ℕ) (slots : ℕ) (defines : Bool)
-    → Updated before after n (after_mention (note_of before n) (total width before) n slots defines)
-    → total width after ≡ total width before + mention_adds (note_of before n) (total width before) n slots
-variables_mention before after n slots defines step = omega (arith, step.totals width, added (note_of before n))
-  where
-    entered : (b : Bool) → weight width (cond b (Some (fresh_note slots defines)) None) ≡ cond b (slots + 1) 0
-    entered true = refl
-    entered false = refl
-
-    added : (o : Option Note)
-        → weight width (after_mention o (total width before) n slots defines) ≡ weight width o + mention_adds o (total width before) n slots
-    added None = let e = entered (enters (total width before) n slots) in omega arith
-    added (Some k) = omega arith

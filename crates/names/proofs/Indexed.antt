@@ -1,5 +1,5 @@
 -- The index: asked for one more name, and with one more name.
-use Rattle.std.proofs.Common.{◌≡◌, ℕ, ◌+◌, ◌-◌, ◌%◌, ◌<◌, true, List, [], ◌∷◌, ◌++◌, length, get_or, set, replicate, sym, refl, ap, ◌∙◌, subst, ap₂, ⊎_elim, arith}
+use Rattle.std.proofs.Common.{◌≡◌, ℕ, ◌+◌, ◌%◌, ◌<◌, true, List, [], ◌∷◌, ◌++◌, length, get_or, set, replicate, Some, None, Option, sym, refl, ap, ◌∙◌, subst, ap₂, ⊎_elim, arith}
 use std.HLevel.{Π_prop}
 use denote.Struct.Props.{props}
 use Rattle.std.specs.Str.{bytes_eq}
@@ -12,11 +12,11 @@ use Rattle.numbering.specs.Lists.{hash_of}
 use Rattle.numbering.proofs.Chains.{headed_none, headed_push, linked_push}
 use Rattle.names.specs.Index.{key_at, same_key, hash_key, Index, Index-prop}
 
-latest_like : (P Q : ℕ → Type 0) (i h : ℕ) → ((j : ℕ) → j < i → P j → Q j) → ((j : ℕ) → j < i → Q j → P j) → Latest P i h → Latest Q i h
+latest_like : (P Q : ℕ → Type 0) (i : ℕ) (h : Option ℕ) → ((j : ℕ) → j < i → P j → Q j) → ((j : ℕ) → j < i → Q j → P j) → Latest P i h → Latest Q i h
 latest_like P Q i h to from l = record {
   within = l.within;
-  holds = λ pos. to (h - 1) (omega (arith, l.within)) (l.holds pos);
-  none = λ j hj ji q. l.none j hj ji (from j ji q);
+  holds = λ p e. to p (l.within p e) (l.holds p e);
+  none = λ j ji q past. l.none j ji (from j ji q) past;
 }
 
 -- two lists that agree below i have the same index below i
@@ -31,22 +31,22 @@ module _ (ks ls : List (List ℕ)) (i : ℕ) (agree : (j : ℕ) → j < i → ke
   back : (j : ℕ) → j < i → key_at ls j ≡ key_at ks j
   back j h = sym (agree j h)
 
-  headed_like : (heads : List ℕ) → Headed (same_key ks) (hash_key ks) heads i → Headed (same_key ls) (hash_key ls) heads i
+  headed_like : (heads : List (Option ℕ)) → Headed (same_key ks) (hash_key ks) heads i → Headed (same_key ls) (hash_key ls) heads i
   headed_like heads hd b h =
-      latest_like (Entry (same_key ks) (hash_key ks) b) (Entry (same_key ls) (hash_key ls) b) i (get_or heads b 0)
+      latest_like (Entry (same_key ks) (hash_key ks) b) (Entry (same_key ls) (hash_key ls) b) i (get_or heads b None)
       (entry_like ks ls i agree b) (entry_like ls ks i back b) (hd b h)
 
-  linked_like : (links : List ℕ) → Linked (same_key ks) (hash_key ks) links i → Linked (same_key ls) (hash_key ls) links i
+  linked_like : (links : List (Option ℕ)) → Linked (same_key ks) (hash_key ks) links i → Linked (same_key ls) (hash_key ls) links i
   linked_like links lk r h fresh =
       let b = hash_key ls r % 256 in
-      latest_like (Entry (same_key ks) (hash_key ks) b) (Entry (same_key ls) (hash_key ls) b) r (get_or links r 0)
+      latest_like (Entry (same_key ks) (hash_key ks) b) (Entry (same_key ls) (hash_key ls) b) r (get_or links r None)
       (λ j hj. entry_like ks ls i agree b j (omega arith)) (λ j hj. entry_like ls ks i back b j (omega arith))
-      (subst (λ k. Latest (Entry (same_key ks) (hash_key ks) (hash_of k % 256)) r (get_or links r 0)) (agree r h)
+      (subst (λ k. Latest (Entry (same_key ks) (hash_key ks) (hash_of k % 256)) r (get_or links r None)) (agree r h)
       (lk r h (fresh_like ls ks i back r h fresh)))
 
 -- ---- an index, and one more name
 
-module _ (ks : List (List ℕ)) (heads links : List ℕ) (is : Index ks heads links) (n : List ℕ) where
+module _ (ks : List (List ℕ)) (heads links : List (Option ℕ)) (is : Index ks heads links) (n : List ℕ) where
   kept : (j : ℕ) → j < length ks → key_at ks j ≡ key_at (ks ++ n ∷ []) j
   kept j h = sym (get_or_append_left ks (n ∷ []) [] j h)
 
@@ -81,25 +81,25 @@ module _ (ks : List (List ℕ)) (heads links : List ℕ) (is : Index ks heads li
         (λ (ne : i ≡ length ks → ⊥). let lt : i < length ks = omega arith in fresh_like ks (ks ++ n ∷ []) (length ks) kept i lt (is.fresh i lt))
         (cases_eq i (length ks))
 
-    pub index_push : Index (ks ++ n ∷ []) (set heads (hash_of n % 256) (length ks + 1)) (set links (length ks) (get_or heads (hash_of n % 256) 0))
+    pub index_push : Index (ks ++ n ∷ []) (set heads (hash_of n % 256) (Some (length ks))) (set links (length ks) (get_or heads (hash_of n % 256) None))
     index_push =
         let ls = ks ++ n ∷ [] in
         let b = hash_of n % 256 in
         let at : hash_key ls (length ks) % 256 ≡ b = ap (λ k. hash_of k % 256) last in
         record {
-          buckets = length-set heads b (length ks + 1) ∙ is.buckets;
-          places = length-set links (length ks) (get_or heads b 0) ∙ is.places;
+          buckets = length-set heads b (Some (length ks)) ∙ is.buckets;
+          places = length-set links (length ks) (get_or heads b None) ∙ is.places;
           fresh = fresh_more;
-          headed = subst (λ m. Headed (same_key ls) (hash_key ls) (set heads b (length ks + 1)) m) (sym (length_push ks n))
-              (subst (λ a. Headed (same_key ls) (hash_key ls) (set heads a (length ks + 1)) (length ks + 1)) at
+          headed = subst (λ m. Headed (same_key ls) (hash_key ls) (set heads b (Some (length ks))) m) (sym (length_push ks n))
+              (subst (λ a. Headed (same_key ls) (hash_key ls) (set heads a (Some (length ks))) (length ks + 1)) at
               (headed_push (same_key ls) (hash_key ls) heads (length ks) is.buckets headed_asked fresh_last));
-          linked = subst (λ m. Linked (same_key ls) (hash_key ls) (set links (length ks) (get_or heads b 0)) m) (sym (length_push ks n))
-              (linked_push (same_key ls) (hash_key ls) links (length ks) (get_or heads b 0) (omega (arith, is.places)) linked_asked
-              (subst (λ a. Latest (Entry (same_key ls) (hash_key ls) a) (length ks) (get_or heads b 0)) (sym at)
+          linked = subst (λ m. Linked (same_key ls) (hash_key ls) (set links (length ks) (get_or heads b None)) m) (sym (length_push ks n))
+              (linked_push (same_key ls) (hash_key ls) links (length ks) (get_or heads b None) (omega (arith, is.places)) linked_asked
+              (subst (λ a. Latest (Entry (same_key ls) (hash_key ls) a) (length ks) (get_or heads b None)) (sym at)
               (headed_asked b (mod_below (hash_of n) 256 (omega arith)))));
         }
 
-pub index_none : (links : List ℕ) → length links ≡ 256 → Index [] (replicate 256 0) links
+pub index_none : (links : List (Option ℕ)) → length links ≡ 256 → Index [] (replicate 256 None) links
 index_none links long = record {
   buckets = refl;
   places = long;
@@ -113,11 +113,11 @@ index_none links long = record {
 entry_prop : (ks : List (List ℕ)) (b j : ℕ) → IsProp (Entry (same_key ks) (hash_key ks) b j)
 entry_prop ks b j = hlevel props
 
-entry_latest_prop : (ks : List (List ℕ)) (b i h : ℕ) → IsProp (Latest (Entry (same_key ks) (hash_key ks) b) i h)
-entry_latest_prop ks b i h = Latest-prop (hlevel props) (Π_prop (λ pos. entry_prop ks b (h - 1))) (hlevel props)
+entry_latest_prop : (ks : List (List ℕ)) (b i : ℕ) (h : Option ℕ) → IsProp (Latest (Entry (same_key ks) (hash_key ks) b) i h)
+entry_latest_prop ks b i h = Latest-prop (hlevel props) (Π_prop (λ p. Π_prop (λ e. entry_prop ks b p))) (hlevel props)
 
-pub index_fact : (ks : List (List ℕ)) (heads links : List ℕ) → IsProp (Index ks heads links)
+pub index_fact : (ks : List (List ℕ)) (heads links : List (Option ℕ)) → IsProp (Index ks heads links)
 index_fact ks heads links =
     Index-prop (hlevel props) (hlevel props) (hlevel props)
-    (Π_prop (λ b. Π_prop (λ h. entry_latest_prop ks b (length ks) (get_or heads b 0))))
-    (Π_prop (λ r. Π_prop (λ h. Π_prop (λ fresh. entry_latest_prop ks (hash_key ks r % 256) r (get_or links r 0)))))
+    (Π_prop (λ b. Π_prop (λ h. entry_latest_prop ks b (length ks) (get_or heads b None))))
+    (Π_prop (λ r. Π_prop (λ h. Π_prop (λ fresh. entry_latest_prop ks (hash_key ks r % 256) r (get_or links r None)))))

@@ -155,12 +155,9 @@ total_take w (suc i) (r ∷ rs) = let h = total_take w i rs in omega arith
 
 -- ---- records rewritten one by one
 
-then_cond : (to : Note → Option Note) (b : Bool) (k : Note) (o : Option Note) → cond b (to k) (then_note to o) ≡ then_note to (cond b (Some k) o)
+pub then_cond : (to : Note → Option Note) (b : Bool) (k : Note) (o : Option Note) → cond b (to k) (then_note to o) ≡ then_note to (cond b (Some k) o)
 then_cond to true k o = refl
 then_cond to false k o = refl
-
-pub rewritten_none : (to : Note → Option Note) → Rewritten [] [] to
-rewritten_none to = record { noted = λ n. refl; totals = λ w. refl }
 
 -- one record more, of a new name
 pub rewritten_more : (to : Note → Option Note) (bs cs more : List NameRecord) (r : NameRecord) → Rewritten bs cs to

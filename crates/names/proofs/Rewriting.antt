@@ -1,21 +1,14 @@
--- The records rewritten one by one, in place.
-use Rattle.std.proofs.Common.{◌≡◌, ℕ, ◌+◌, ◌<◌, ◌≤◌, Bool, true, false, cond, List, [], ◌∷◌, ◌++◌, length, get_or, take, set, Some, None, Option, sym, ap, ◌∙◌, subst, arith}
-use mathlib.Core.Path.{subst₃}
-use Rattle.std.proofs.lemmas.List.{get_or-take, take_all, take_more, take_more_set, get_or-set_other}
+-- The records rewritten one by one.
+use Rattle.std.proofs.Common.{◌≡◌, ℕ, ◌+◌, ◌<◌, ◌≤◌, Bool, true, false, cond, List, [], ◌∷◌, ◌++◌, map, length, get_or, take, Some, None, Option, sym, refl, ap, ◌∙◌, subst, arith}
+use Rattle.std.specs.Str.{bytes_eq}
+use Rattle.std.proofs.lemmas.List.{take_more, take-map, length-map}
 use Rattle.names.specs.declared.record.Note.{Note}
 use Rattle.names.specs.declared.record.NameRecord.{NameRecord}
-use Rattle.names.specs.declared.inner.Names.{Names}
-use Rattle.names.specs.Notes.{name_in, note_of, total, width, weight, stands, standing, then_note, Rewritten, Updated}
-use Rattle.names.specs.Tables.{in_use, Sound}
-use Rattle.names.proofs.Records.{key_in, new_at, total_push, total_le, total_take, updated_push, updated_same, rewritten_none, rewritten_more}
-use Rattle.names.proofs.Sounds.{used_long, keys_long, with_record, sound_at, chosen, passed_over}
-
--- the first i records are rewritten to the first m, and those from i on are as they were
-pub record Rewriting (before : List NameRecord) (to : Note → Option Note) (t : Names) (m i : ℕ) : Type 0 where
-  pub sound : Sound t
-  pub within : m ≤ i
-  pub done : Rewritten (take i before) (take m t.records) to
-  pub rest : (j : ℕ) (d : NameRecord) → i ≤ j → j < length before → get_or t.records j d ≡ get_or before j d
+use Rattle.names.specs.Notes.{name_in, note_of, total, width, weight, stands, standing, placed, unplaced, then_note, Rewritten, Updated}
+use Rattle.names.specs.Index.{Index}
+use Rattle.names.specs.Tables.{Sound}
+use Rattle.names.proofs.Records.{names_of, key_in, new_at, total_push, total_le, total_take, updated_push, updated_same, then_cond, rewritten_more}
+use Rattle.names.proofs.Sounds.{used_long, keys_long, chosen, passed_over}
 
 standing_less : (k : Note) → weight width (standing k) ≤ width k
 standing_less k = by (stands k)
@@ -24,103 +17,78 @@ standing_less k = by (stands k)
     by true = omega arith
     by false = omega arith
 
-module _ (t₀ : Names) (s₀ : Sound t₀) (to : Note → Option Note) where
-  pub rewriting_none : (t : Names) → Sound t → t.records ≡ t₀.records → Rewriting (in_use t₀) to t 0 0
-  rewriting_none t s same = record {
-    sound = s;
-    within = omega arith;
-    done = rewritten_none to;
-    rest = λ j d _ h.
-        ap (λ rs. get_or rs j d) same ∙ sym (get_or-take t₀.used t₀.records j d (omega (arith, used_long t₀ s₀)));
-  }
+-- ---- sweeping: those of the first i that stand are kept
 
-  -- at the end all are rewritten
-  pub rewriting_all : (t : Names) (m i : ℕ) → Rewriting (in_use t₀) to t m i → t₀.used ≤ i → Rewritten (in_use t₀) (take m t.records) to
-  rewriting_all t m i so le =
-      subst (λ bs. Rewritten bs (take m t.records) to) (take_all i (in_use t₀) (omega (arith, used_long t₀ s₀))) so.done
+module _ {records : List NameRecord} {used variables : ℕ} {heads links : List (Option ℕ)} (s : Sound records used variables heads links)
+    (kept : List NameRecord) (i : ℕ) (so : Rewritten (take i (take used records)) kept standing) (h : i < used)
+    (r : NameRecord) (at : r ≡ get_or (take used records) i r) where
+  abbrev in_use : List NameRecord
+  in_use = take used records
 
-  -- the record at i
-  module _ (t : Names) (m i : ℕ) (so : Rewriting (in_use t₀) to t m i) (h : i < t₀.used) (d : NameRecord) where
-    same : get_or t.records i d ≡ get_or (in_use t₀) i d
-    same = so.rest i d (omega arith) (omega (arith, used_long t₀ s₀))
+  long : i < length in_use
+  long = omega (arith, used_long s)
 
-    new_before : note_of (take i (in_use t₀)) (name_in (get_or t.records i d)) ≡ None
-    new_before =
-        let long : i < length (in_use t₀) = omega (arith, used_long t₀ s₀) in
-        ap (note_of (take i (in_use t₀))) (ap name_in same ∙ sym (key_in (in_use t₀) i d long))
-        ∙ new_at (in_use t₀) i long (s₀.index.fresh i (omega (arith, keys_long t₀ s₀)))
+  new_before : note_of (take i in_use) (name_in r) ≡ None
+  new_before =
+      ap (note_of (take i in_use)) (ap name_in at ∙ sym (key_in in_use i r long))
+      ∙ new_at in_use i long (s.index.fresh i (omega (arith, keys_long s)))
 
-    pub new_done : note_of (take m t.records) (name_in (get_or t.records i d)) ≡ None
-    new_done = so.done.noted (name_in (get_or t.records i d)) ∙ ap (then_note to) new_before
+  pub sweep_new : note_of kept (name_in r) ≡ None
+  sweep_new = so.noted (name_in r) ∙ ap (then_note standing) new_before
 
-    next : take (i + 1) (in_use t₀) ≡ take i (in_use t₀) ++ get_or t.records i d ∷ []
-    next =
-        take_more (in_use t₀) i d (omega (arith, used_long t₀ s₀))
-        ∙ ap (λ r. take i (in_use t₀) ++ r ∷ []) (sym same)
+  next : take (i + 1) in_use ≡ take i in_use ++ r ∷ []
+  next = take_more in_use i r long ∙ ap (λ q. take i in_use ++ q ∷ []) (sym at)
 
-    pub done_more : (more : List NameRecord)
-        → Updated (take m t.records) more (name_in (get_or t.records i d)) (to (get_or t.records i d).note)
-        → Rewritten (take (i + 1) (in_use t₀)) more to
-    done_more more step =
-        subst (λ bs. Rewritten bs more to) (sym next)
-        (rewritten_more to (take i (in_use t₀)) (take m t.records) more (get_or t.records i d) so.done new_before step)
-
--- ---- sweeping
-
-module _ (t₀ : Names) (s₀ : Sound t₀) (t : Names) (i : ℕ) (so : Rewriting (in_use t₀) standing t t.used i) (h : i < t₀.used) (d : NameRecord) where
-  pub sweep_room : t.variables + width (get_or t.records i d).note ≤ 256
+  pub sweep_room : total width kept + width r.note ≤ 256
   sweep_room =
-      let up = ap (total width) (next t₀ s₀ standing t t.used i so h d) ∙ total_push width (take i (in_use t₀)) (get_or t.records i d) in
+      let up = ap (total width) next ∙ total_push width (take i in_use) r in
       omega (
         arith,
-        so.sound.counted,
-        so.done.totals width,
-        total_le (λ k. weight width (standing k)) width standing_less (take i (in_use t₀)),
+        so.totals width,
+        total_le (λ k. weight width (standing k)) width standing_less (take i in_use),
         up,
-        total_take width (i + 1) (in_use t₀),
-        s₀.counted,
-        s₀.room,
+        total_take width (i + 1) in_use,
+        s.counted,
+        s.room,
       )
 
-  pub sweep_dropped : false ≡ stands (get_or t.records i d).note → Rewriting (in_use t₀) standing t t.used (i + 1)
-  sweep_dropped none = record {
-    sound = so.sound;
-    within = omega (arith, so.within);
-    done = done_more t₀ s₀ standing t t.used i so h d (in_use t)
-        (subst (Updated (in_use t) (in_use t) (name_in (get_or t.records i d)))
-        (new_done t₀ s₀ standing t t.used i so h d ∙ passed_over (stands (get_or t.records i d).note) (Some (get_or t.records i d).note) None none)
-        (updated_same (in_use t) (name_in (get_or t.records i d))));
-    rest = λ j e le lt. so.rest j e (omega arith) lt;
-  }
+  done_more : (more : List NameRecord) → Updated kept more (name_in r) (standing r.note) → Rewritten (take (i + 1) in_use) more standing
+  done_more more step =
+      subst (λ bs. Rewritten bs more standing) (sym next) (rewritten_more standing (take i in_use) kept more r so new_before step)
 
-  pub sweep_kept : true ≡ stands (get_or t.records i d).note → (u : Names) → Sound u → in_use u ≡ in_use t ++ get_or t.records i d ∷ []
-      → u.used ≡ t.used + 1 → ((j : ℕ) (e : NameRecord) → t.used < j → get_or u.records j e ≡ get_or t.records j e)
-      → Rewriting (in_use t₀) standing u u.used (i + 1)
-  sweep_kept up u sound pushed more rest = record {
-    sound = sound;
-    within = omega (arith, so.within);
-    done = done_more t₀ s₀ standing t t.used i so h d (in_use u)
-        (subst (Updated (in_use t) (in_use u) (name_in (get_or t.records i d))) (chosen (stands (get_or t.records i d).note) (Some (get_or t.records i d).note) None up)
-        (subst (λ rs. Updated (in_use t) rs (name_in (get_or t.records i d)) (Some (get_or t.records i d).note)) (sym pushed)
-        (updated_push (in_use t) (get_or t.records i d) (new_done t₀ s₀ standing t t.used i so h d))));
-    rest = λ j e le lt. rest j e (omega (arith, so.within)) ∙ so.rest j e (omega arith) lt;
-  }
+  pub sweep_dropped : false ≡ stands r.note → Rewritten (take (i + 1) in_use) kept standing
+  sweep_dropped none =
+      done_more kept (subst (Updated kept kept (name_in r)) (sweep_new ∙ passed_over (stands r.note) (Some r.note) None none) (updated_same kept (name_in r)))
 
--- ---- each record changed where it is
+  pub sweep_kept : true ≡ stands r.note → (more : List NameRecord) → more ≡ kept ++ r ∷ [] → Rewritten (take (i + 1) in_use) more standing
+  sweep_kept up more pushed =
+      done_more more (subst (Updated kept more (name_in r)) (chosen (stands r.note) (Some r.note) None up)
+      (subst (λ rs. Updated kept rs (name_in r) (Some r.note)) (sym pushed) (updated_push kept r sweep_new)))
 
-module _ (t₀ : Names) (s₀ : Sound t₀) (f : Note → Note) (t : Names) (i : ℕ) (so : Rewriting (in_use t₀) (λ k. Some (f k)) t i i)
-    (h : i < t₀.used) (within : i < t.used) (d r : NameRecord) (named : name_in r ≡ name_in (get_or t.records i d))
-    (noted : r.note ≡ f (get_or t.records i d).note) where
-  pub changed_next : (f (get_or t.records i d).note).slots ≡ (get_or t.records i d).note.slots
-      → Rewriting (in_use t₀) (λ k. Some (f k)) (with_record t so.sound i within d r) (i + 1) (i + 1)
-  changed_next slots =
-      let none = ap (note_of (take i t.records)) named ∙ new_done t₀ s₀ (λ k. Some (f k)) t i i so h d in
-      let long : i < length t.records = omega (arith, so.sound.few, so.sound.long) in
+-- ---- unplacing
+
+pub unplaced_names : (rs : List NameRecord) → names_of (map unplaced rs) ≡ names_of rs
+unplaced_names [] = refl
+unplaced_names (r ∷ rs) = ap (λ ns. name_in r ∷ ns) (unplaced_names rs)
+
+pub unplaced_notes : (rs : List NameRecord) (n : List ℕ) → note_of (map unplaced rs) n ≡ then_note (λ k. Some (placed None k)) (note_of rs n)
+unplaced_notes [] n = refl
+unplaced_notes (r ∷ rs) n =
+    let b = bytes_eq (name_in r) n in
+    ap (cond b (Some (placed None r.note))) (unplaced_notes rs n) ∙ then_cond (λ k. Some (placed None k)) b r.note (note_of rs n)
+
+pub unplaced_widths : (rs : List NameRecord) → total width (map unplaced rs) ≡ total width rs
+unplaced_widths [] = refl
+unplaced_widths (r ∷ rs) = ap (λ w. width r.note + w) (unplaced_widths rs)
+
+module _ {records : List NameRecord} {used variables : ℕ} {heads links : List (Option ℕ)} (s : Sound records used variables heads links) where
+  pub sound_unplaced : Sound (map unplaced records) used variables heads links
+  sound_unplaced =
+      let first = take-map unplaced used records in
       record {
-        sound = sound_at t so.sound i within d r named (ap (λ k. k.slots) noted ∙ slots);
-        within = omega arith;
-        done = done_more t₀ s₀ (λ k. Some (f k)) t i i so h d (take (i + 1) (set t.records i r))
-            (subst₃ (Updated (take i t.records)) (sym (take_more_set t.records i r long)) named (ap Some noted)
-            (updated_push (take i t.records) r none));
-        rest = λ j e le lt. get_or-set_other t.records i j r e (omega arith) ∙ so.rest j e (omega arith) lt;
+        few = s.few;
+        long = length-map records unplaced ∙ s.long;
+        index = subst (λ ns. Index ns heads links) (sym (ap names_of first ∙ unplaced_names (take used records))) s.index;
+        counted = s.counted ∙ sym (ap (total width) first ∙ unplaced_widths (take used records));
+        room = s.room;
       }

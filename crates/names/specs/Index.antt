@@ -1,5 +1,5 @@
 -- The hash index over a list of names.
-use Rattle.std.specs.Prelude.{◌≡◌, ℕ, ◌<◌, Bool, List, [], ◌∷◌, ◌++◌, map, length, slice_index_or}
+use Rattle.std.specs.Prelude.{◌≡◌, ℕ, ◌<◌, Bool, List, [], ◌∷◌, ◌++◌, map, length, slice_index_or, Option}
 use Rattle.numbering.specs.Keys.{Fresh, Headed, Linked}
 use Rattle.numbering.specs.Lists.{same_list, hash_of}
 use Rattle.names.specs.declared.record.NameRecord.{NameRecord}
@@ -19,7 +19,7 @@ abbrev pub with_asked : List NameRecord → List ℕ → List (List ℕ)
 with_asked rs n = map name_in rs ++ n ∷ []
 
 -- the names are pairwise different, each bucket's head is its last name, and each link leads to the bucket's name before
-pub record Index (ks : List (List ℕ)) (heads links : List ℕ) : Type 0 where
+pub record Index (ks : List (List ℕ)) (heads links : List (Option ℕ)) : Type 0 where
   pub buckets : length heads ≡ 256
   pub places : length links ≡ 256
   pub fresh : (i : ℕ) → i < length ks → Fresh (same_key ks) i

@@ -1,3 +1,4 @@
+pub mod ShortNames
 pub mod Notes
 pub mod Index
 pub mod Tables

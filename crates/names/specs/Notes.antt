@@ -1,15 +1,16 @@
 -- What is known of names: a map from names to notes, held by a list of records.
-use Rattle.std.specs.Prelude.{◌≡◌, ℕ, ◌+◌, ◌-◌, min, Bool, true, false, cond, not, ◌&&◌, ◌||◌, List, [], ◌∷◌, take, Some, None, Option, nat_lt}
+use Rattle.std.specs.Prelude.{◌≡◌, ℕ, ◌+◌, ◌-◌, min, Bool, true, false, cond, not, ◌&&◌, ◌||◌, List, [], ◌∷◌, Some, None, Option, nat_lt}
 use Rattle.std.specs.Str.{bytes_eq}
 use Rattle.names.specs.declared.record.Note.{Note}
 use Rattle.names.specs.declared.record.NameRecord.{NameRecord}
+use Rattle.names.specs.ShortNames.{bytes_in}
 
 abbrev pub name_in : NameRecord → List ℕ
-name_in r = take r.len r.bytes
+name_in r = bytes_in r.name
 
--- a name that one unit mentions; 256 is no variable
+-- a name that one unit mentions, and that has no block
 abbrev pub fresh_note : ℕ → Bool → Note
-fresh_note slots defines = record { slots = slots; units = 1; defined = defines; first = 256 }
+fresh_note slots defines = record { slots = slots; units = 1; defined = defines; first = None }
 
 -- one unit more, at most 255
 abbrev pub raised : Note → Bool → Note
@@ -18,8 +19,11 @@ raised k defines = record { slots = k.slots; units = min (k.units + 1) 255; defi
 abbrev pub lowered : Note → Bool → Note
 lowered k defines = record { slots = k.slots; units = k.units - 1; defined = k.defined && not defines; first = k.first }
 
-abbrev pub placed : ℕ → Note → Note
+abbrev pub placed : Option ℕ → Note → Note
 placed v k = record { slots = k.slots; units = k.units; defined = k.defined; first = v }
+
+abbrev pub unplaced : NameRecord → NameRecord
+unplaced r = record { name = r.name; note = placed None r.note }
 
 -- some unit mentions the name
 abbrev pub stands : Note → Bool

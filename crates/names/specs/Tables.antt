@@ -1,22 +1,18 @@
 -- The table: its first records are in use, and indexed. What a mention replies, and leaves known of the name.
-use Rattle.std.specs.Prelude.{◌≡◌, ℕ, ◌+◌, ◌≤◌, Bool, cond, not, ◌&&◌, List, map, length, take, Some, None, Ok, Err, Option, Result, ◌==◌, nat_le}
+use Rattle.std.specs.Prelude.{◌≡◌, ℕ, ◌+◌, ◌≤◌, Bool, cond, not, ◌&&◌, List, map, length, take, Some, None, Ok, Err, Option, Result, ◌==◌, nat_le, nat_lt}
 use Rattle.names.specs.declared.record.Note.{Note}
 use Rattle.names.specs.declared.record.NameRecord.{NameRecord}
-use Rattle.names.specs.declared.inner.Names.{Names}
-use Rattle.names.specs.declared.inner.TableFull.{TableFull}
-use Rattle.names.specs.Notes.{name_in, total, width, fresh_note, raised}
+use Rattle.names.specs.declared.table.TableFull.{TableFull}
+use Rattle.names.specs.Notes.{name_in, total, width, fresh_note, raised, Updated}
 use Rattle.names.specs.Index.{Index}
 
-abbrev pub in_use : Names → List NameRecord
-in_use t = take t.used t.records
-
--- the records in use are found by their names, and their blocks have 256 variables at most
-pub record Sound (t : Names) : Type 0 where
-  pub few : t.used ≤ 256
-  pub long : length t.records ≡ 256
-  pub index : Index (map name_in (in_use t)) t.heads t.links
-  pub counted : t.variables ≡ total width (in_use t)
-  pub room : t.variables ≤ 256
+-- the first of the records are in use: they are found by their names, and their blocks have 256 variables at most
+pub record Sound (records : List NameRecord) (used variables : ℕ) (heads links : List (Option ℕ)) : Type 0 where
+  pub few : used ≤ 256
+  pub long : length records ≡ 256
+  pub index : Index (map name_in (take used records)) heads links
+  pub counted : variables ≡ total width (take used records)
+  pub room : variables ≤ 256
   deriving IsProp as Sound-prop
 
 -- whether an unknown name is entered, beside names with so many variables
@@ -34,3 +30,17 @@ after_mention None variables n slots defines = cond (enters variables n slots) (
 abbrev pub mention_adds : Option Note → ℕ → List ℕ → ℕ → ℕ
 mention_adds (Some k) variables n slots = 0
 mention_adds None variables n slots = cond (enters variables n slots) (slots + 1) 0
+
+-- the variable of a number, if it is one of a variable
+abbrev pub variable_at : ℕ → Option ℕ
+variable_at v = cond (nat_lt v 256) (Some v) None
+
+-- a record is changed, and keeps its name and its slots
+pub record OfSameName (before after : NameRecord) : Type 0 where
+  pub named : name_in after ≡ name_in before
+  pub slots : after.note.slots ≡ before.note.slots
+
+-- the record that a name has is changed; without one, all stay as they are
+abbrev pub Changed : (NameRecord → Unit {0} → NameRecord → Type 0) → Option Note → List NameRecord → List NameRecord → List ℕ → Type 0
+Changed change None before after n = after ≡ before
+Changed change (Some k) before after n = (r s : NameRecord) × (r.note ≡ k) × change r tt s × Updated before after n (Some s.note)

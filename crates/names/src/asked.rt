@@ -5,7 +5,7 @@ ghost use Rattle.numbering.proofs.Lists.{lists_equivalence, lists_alike};
 ghost use Rattle.names.specs.Index.{key_at, same_key, hash_key, with_asked};
 
 use crate::record::NameRecord;
-use numbering::{KeyBank, hash_bytes};
+use numbering::{KeyBank, hash_items};
 
 #[derive(Drop)]
 pub struct Asked<'a> {
@@ -18,10 +18,9 @@ impl<'a> Asked<'a> {
         requires { i < length self.now.records.now + 1 }
         ensures { result.now ≡ key_at (with_asked self.now.records.now self.now.name.now) i }
     {
-        if i < self.records.len() {
-            self.records[i].name()
-        } else {
-            self.name
+        match self.records.get(i) {
+            Some(record) => record.name(),
+            None => self.name,
         }
     }
 }
@@ -42,7 +41,7 @@ impl<'a> KeyBank for Asked<'a> {
     }
 
     fn hash(&self, i: usize) -> u32 {
-        hash_bytes(self.key(i))
+        hash_items(self.key(i))
     }
 
     fn is_same(&self, i: usize, j: usize) -> bool {

@@ -2,10 +2,9 @@
 #![tactic(auto)]
 
 mod asked;
-mod inner;
 mod record;
+mod short_name;
 mod table;
 
-pub use inner::TableFull;
-pub use record::{NOWHERE, Note};
-pub use table::NameTable;
+pub use record::Note;
+pub use table::{NameTable, TableFull};

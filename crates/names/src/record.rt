@@ -1,8 +1,10 @@
 // One name's record.
-ghost use Rattle.std.specs.Prelude.{◌≤◌};
+ghost use Rattle.std.specs.Prelude.{◌≡◌, ◌<◌, ◌≤◌, [], length, map, slice_index_or, slice_set};
+ghost use Rattle.std.specs.Fn.{FnOnceReturnsAtMut};
+ghost use Rattle.names.specs.declared.record.NameRecord.{NameRecord as AnyRecord};
+ghost use Rattle.names.specs.Notes.{name_in, fresh_note, stands, raised, lowered, placed, unplaced};
 
-// No block is laid out for the name yet: no variable has this number.
-pub const NOWHERE: u16 = 256;
+use crate::short_name::ShortName;
 
 // What is known of a name.
 #[derive(Clone, Copy)]
@@ -13,18 +15,107 @@ pub struct Note {
     pub units: u8,
     // whether one of them defines it without extern
     pub defined: bool,
-    // the first variable of its block
-    pub first: u16,
+    // the first variable of its block, once that is laid out
+    pub first: Option<u8>,
 }
 
 #[derive(Clone, Copy)]
 pub struct NameRecord {
-    bytes: [u8; 24],
-    len: usize,
+    name: ShortName,
     pub note: Note,
-    ghost within: { len ≤ 24 },
 }
 
-mod ops;
+impl NameRecord {
+    // A record that no name has.
+    pub(crate) fn free() -> NameRecord
+        ensures { name_in result ≡ [] }
+    {
+        NameRecord {
+            name: ShortName::empty(),
+            note: Note {
+                slots: 0,
+                units: 0,
+                defined: false,
+                first: None,
+            },
+        }
+    }
 
-pub(crate) use ops::{lower, place, raise};
+    // The record of a name that one unit mentions.
+    pub(crate) fn new(name: &[u8], slots: u8, defines: bool) -> NameRecord
+        requires { length name.now ≤ 24 }
+        ensures named { name_in result ≡ name.now }
+        ensures noted { result.note ≡ fresh_note slots defines }
+    {
+        NameRecord {
+            name: ShortName::new(name),
+            note: Note {
+                slots,
+                units: 1,
+                defined: defines,
+                first: None,
+            },
+        }
+    }
+
+    pub(crate) fn name(&self) -> &[u8]
+        ensures { result.now ≡ name_in self.now }
+    {
+        self.name.as_slice()
+    }
+
+    // Whether some unit mentions the name.
+    pub(crate) fn stands(&self) -> bool
+        ensures { result ≡ stands self.now.note }
+    {
+        self.note.units > 0
+    }
+
+    // One unit more mentions the name.
+    pub(crate) fn raise(&mut self, defines: bool)
+        ensures named { self.new.name ≡ self.old.name }
+        ensures noted { self.new.note ≡ raised self.old.note defines }
+    {
+        self.note.units = self.note.units.saturating_add(1);
+        self.note.defined = self.note.defined || defines;
+    }
+
+    // One unit less mentions the name.
+    pub(crate) fn lower(&mut self, defines: bool)
+        ensures named { self.new.name ≡ self.old.name }
+        ensures noted { self.new.note ≡ lowered self.old.note defines }
+    {
+        self.note.units = self.note.units.saturating_sub(1);
+        self.note.defined = self.note.defined && !defines;
+    }
+
+    // The name's block begins at this variable, or it has none.
+    pub(crate) fn place(&mut self, first: Option<u8>)
+        ensures named { self.new.name ≡ self.old.name }
+        ensures noted { self.new.note ≡ placed first self.old.note }
+    {
+        self.note.first = first;
+    }
+}
+
+// Changes one of the records.
+pub(crate) fn change_record<F: FnOnce(&mut NameRecord)>(
+    records: &mut [NameRecord],
+    p: usize,
+    change: F,
+)
+    requires within { p < length records.old }
+    requires callable { F.IsAlwaysCallable change }
+    ensures { (before after : AnyRecord) × (before ≡ slice_index_or records.old p before) × FnOnceReturnsAtMut F.FnOnce change before tt after × (records.new ≡ slice_set records.old p after) }
+{
+    change(&mut records[p]);
+}
+
+// No block is laid out for any of the names.
+pub(crate) fn unplace(records: &mut [NameRecord])
+    ensures { records.new ≡ map unplaced records.old }
+{
+    for known in records {
+        known.place(None);
+    }
+}

@@ -3,7 +3,7 @@
 
 #[cfg(test)]
 mod tests {
-    use names::{NOWHERE, NameTable};
+    use names::NameTable;
 
     // A call on the table, for a name of one byte.
     #[derive(Clone, Copy)]
@@ -30,19 +30,14 @@ mod tests {
         refused
     }
 
-    // How many units mention the name, or 99 where it is not known.
-    fn units(table: &NameTable, name: &[u8]) -> u8 {
-        match table.find(name) {
-            Some(note) => note.units,
-            None => 99,
-        }
+    // How many units mention the name, if it is known.
+    fn units(table: &NameTable, name: &[u8]) -> Option<u8> {
+        table.find(name).map(|note| note.units)
     }
 
-    fn first(table: &NameTable, name: &[u8]) -> u16 {
-        match table.find(name) {
-            Some(note) => note.first,
-            None => 999,
-        }
+    // The first variable of the name's block, if it has one, and if it is known.
+    fn first(table: &NameTable, name: &[u8]) -> Option<Option<u8>> {
+        table.find(name).map(|note| note.first)
     }
 
     #[test]
@@ -57,8 +52,8 @@ mod tests {
             Step::Forget(113),
         ];
         assert_eq!(rt; run(&mut table, &steps), 0);
-        assert_eq!(rt; units(&table, b"p"), 1);
-        assert_eq!(rt; units(&table, b"f"), 0);
+        assert_eq!(rt; units(&table, b"p"), Some(1));
+        assert_eq!(rt; units(&table, b"f"), Some(0));
         assert_eq!(rt; table.variables(), 5);
     }
 
@@ -76,8 +71,8 @@ mod tests {
             Step::Mention(112, 0),
         ];
         assert_eq!(rt; run(&mut table, &steps), 2);
-        assert_eq!(rt; units(&table, b"p"), 99);
-        assert_eq!(rt; units(&table, b"f"), 2);
+        assert_eq!(rt; units(&table, b"p"), None);
+        assert_eq!(rt; units(&table, b"f"), Some(2));
         assert_eq!(rt; table.variables(), 256);
     }
 
@@ -87,9 +82,9 @@ mod tests {
         assert_eq!(rt; run(&mut table, &[Step::Mention(112, 0)]), 0);
         table.place(b"p", 7);
         table.place(b"q", 8);
-        assert_eq!(rt; first(&table, b"p"), 7);
+        assert_eq!(rt; first(&table, b"p"), Some(Some(7)));
         table.unplace_all();
-        assert_eq!(rt; first(&table, b"p"), NOWHERE);
+        assert_eq!(rt; first(&table, b"p"), Some(None));
     }
 
     #[test]
@@ -103,6 +98,6 @@ mod tests {
             table.mention(b"abcdefghijklmnopqrstuvwx", 0, true).is_ok(),
             true
         );
-        assert_eq!(rt; units(&table, b"abcdefghijklmnopqrstuvwx"), 1);
+        assert_eq!(rt; units(&table, b"abcdefghijklmnopqrstuvwx"), Some(1));
     }
 }

@@ -7,7 +7,7 @@ use Rattle.lexemes.specs.Terminals.{Name}
 use Rattle.grammar.specs.declared.item.Linkage.{Linkage}
 use Rattle.declarations.specs.Declarations.{Entry, size_of, Mention, declares, uses, calls, entry}
 use Rattle.names.specs.declared.record.Note.{Note}
-use Rattle.names.specs.declared.inner.TableFull.{TableFull}
+use Rattle.names.specs.declared.table.TableFull.{TableFull}
 use Rattle.names.specs.Notes.{raised, fresh_note}
 use Rattle.names.specs.Tables.{enters, mention_reply, after_mention, mention_adds}
 use Rattle.books.specs.Members.{any_of}

@@ -1,5 +1,5 @@
 -- A text's names, and those of all standing units, laid out.
-use Rattle.std.proofs.Common.{◌≡◌, ℕ, zero, suc, ◌+◌, ◌<◌, ◌≤◌, Bool, true, false, cond, eqb, List, [], ◌∷◌, ◌++◌, length, get_or, take, drop, Some, None, Option, sym, refl, ap, ◌∙◌, subst, inl, inr, append_assoc, add-one, arith}
+use Rattle.std.proofs.Common.{◌≡◌, ℕ, zero, suc, ◌+◌, ◌<◌, ◌≤◌, Bool, true, false, cond, eqb, List, [], ◌∷◌, ◌++◌, get_or, take, Some, None, Option, sym, refl, ap, ◌∙◌, subst, inl, inr, append_assoc, add-one, arith}
 use Rattle.std.specs.List.{flat_map, AllByRecursion}
 use Rattle.std.specs.Str.{bytes_eq}
 use Rattle.std.proofs.lemmas.List.{append-nil}
@@ -41,26 +41,19 @@ laying_grows es (declares e n k ∷ ds) = let one : Entry = record { name = n.by
 laying_grows es (uses p ∷ ds) = laying_grows es ds
 laying_grows es (calls f k ∷ ds) = laying_grows es ds
 
--- the bytes of a span are read again by their offset and their number
-read_again : (n : ℕ) (xs : List ℕ) → take (length (take n xs)) xs ≡ take n xs
-read_again zero xs = refl
-read_again (suc n) [] = refl
-read_again (suc n) (x ∷ xs) = ap (λ (ys : List ℕ). x ∷ ys) (read_again n xs)
-
 module _ (units : Units) (es : List Entry) (text : List ℕ) (unit : ℕ) (d : Declaration) (ds : List Mention) (b : List ℕ) (known : List ℕ → Option Note)
     (there : get_or units unit None ≡ Some text) (bytes : b ≡ (name_in_text text d.name).bytes) (can : Layable es (declaration_in text d ∷ ds) known) where
   abbrev pub here : Entry
   here = record { name = b; slots = d.slots }
 
-  pub fits_one : Fits units es here (record { unit = unit; from = d.name.from; len = length b }) (known b)
+  pub fits_one : Fits units es here (record { unit = unit; span = d.name }) (known b)
   fits_one =
       record {
         size = subst (λ (n : List ℕ). size_in (known n) ≡ suc d.slots) (sym bytes) (can.sizes _ (omega (arith, own)) ∙ own);
         small = can.short.0.2;
         room = subst (λ (n : List ℕ). variables (blocks (lay_entry es (record { name = n; slots = d.slots }))) ≤ 256) (sym bytes)
             (omega (arith, laying_grows (lay_entry es (record { name = (name_in_text text d.name).bytes; slots = d.slots })) ds, can.room));
-        read = ap (λ (o : Option (List ℕ)). bytes_in o (record { unit = unit; from = d.name.from; len = length b })) there
-            ∙ ap (λ (n : List ℕ). take (length n) (drop d.name.from text)) bytes ∙ read_again _ (drop d.name.from text) ∙ sym bytes;
+        read = ap (λ (o : Option (List ℕ)). bytes_in o d.name) there ∙ sym bytes;
       }
     where
       own : size_of (flat_map entry (declaration_in text d ∷ ds)) (name_in_text text d.name).bytes ≡ suc d.slots

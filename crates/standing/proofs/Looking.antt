@@ -1,5 +1,6 @@
 -- Cells by what the table of names says.
 use Rattle.std.proofs.Common.{◌≡◌, ℕ, ◌+◌, ◌<◌, ◌≤◌, cond, ltb, List, Some, None, Option, sym, ap, ◌∙◌, arith}
+use Rattle.std.specs.Option.{SomeIff}
 use Rattle.std.proofs.lemmas.Bool.{lt-ltb, le-ltb, cond-true, cond-false}
 use Rattle.declarations.specs.Declarations.{Entry, size_of}
 use Rattle.names.specs.declared.record.Note.{Note}
@@ -16,13 +17,15 @@ module _ (es : List Entry) (known : List ℕ → Option Note) (n : List ℕ) (k 
   no_cell h = sym (cond-false _ _ _ (le-ltb k (size_of es n) (omega (arith, places.sizes n, h))))
 
   -- the block of a known name is laid out, and its cells are below 256
-  laid_at : 0 < size_in (known n) → first_in (known n) ≡ first_of es n
+  pub laid_at : 0 < size_in (known n) → first_in (known n) ≡ Some (first_of es n)
   laid_at some = places.firsts n ∙ cond-true _ _ _ (lt-ltb 0 (size_of es n) (omega (arith, places.sizes n, some)))
 
-  pub cell_below : k < size_in (known n) → first_in (known n) + k < 256
-  cell_below inside =
-      omega (arith, laid_at (omega (arith, inside)), first_below es n (omega (arith, places.sizes n, inside)), places.few, places.sizes n, inside)
+  pub cell_below : k < size_in (known n) → first_of es n + k < 256
+  cell_below inside = omega (arith, first_below es n (omega (arith, places.sizes n, inside)), places.few, places.sizes n, inside)
 
-  pub cell_there : k < size_in (known n) → Some (first_in (known n) + k) ≡ variable_of
-  cell_there inside =
-      ap (λ (v : ℕ). Some (v + k)) (laid_at (omega (arith, inside))) ∙ sym (cond-true _ _ _ (lt-ltb k (size_of es n) (omega (arith, places.sizes n, inside))))
+  pub cell_there : k < size_in (known n) → Some (first_of es n + k) ≡ variable_of
+  cell_there inside = sym (cond-true _ _ _ (lt-ltb k (size_of es n) (omega (arith, places.sizes n, inside))))
+
+pub some_if : (o : Option ℕ) (P : Type 0) (v : ℕ) → SomeIff o P v → P → o ≡ Some v
+some_if None P v never p = absurd (never p)
+some_if (Some x) P v found p = ap Some found.1

@@ -1,30 +1,27 @@
 -- Which refusal a load or an unload meets, from the tests in their order.
-use Rattle.std.proofs.Common.{◌≡◌, ℕ, ◌<◌, ◌≤◌, true, false, List, length, get_or, set, is_some, Some, None, Ok, Err, Option, Result, sym, refl, ap, ◌∙◌, arith}
-use Rattle.std.proofs.lemmas.List.{get_or-map, map-set}
+use Rattle.std.proofs.Common.{◌≡◌, ℕ, ◌<◌, ◌≤◌, Bool, true, false, cond, ltb, List, length, get_or, set, is_some, Some, None, Ok, Err, Option, Result, sym, refl, ap, ◌∙◌, arith}
+use Rattle.std.proofs.lemmas.List.{get_or-map}
 use Rattle.std.proofs.lemmas.Bool.{lt-ltb, le-ltb}
 use Rattle.lexemes.specs.Lines.{located}
 use Rattle.grammar.specs.declared.unit.UnitFault.{UnitFault}
 use Rattle.grammar.specs.declared.unit.UnitFault.TheVariants.{Declaration}
+use Rattle.grammar.specs.declared.unit_text.UnitText.{UnitText}
 use Rattle.grammar.specs.Units.{outcome, read}
 use Rattle.declarations.specs.Declarations.{fault_in}
 use Rattle.declarations.specs.Verdicts.{unit_verdict, both, ruled}
 use Rattle.books.specs.Books.{Units, standing, words, indirect_calls}
 use Rattle.books.specs.Loads.{clash, too_many_variables, too_many_words, too_many_calls}
+use Rattle.standing.specs.declared.refusal.UnitRefusal.{UnitRefusal}
 use Rattle.standing.specs.declared.refusal.UnitRefusal.TheVariants.{NoSuchUnit, UnitStands, Text, Clash, TooManyVariables, TooManyWords, TooManyCalls, NothingStands}
-use Rattle.standing.specs.declared.slot.Slot.{Slot}
 use Rattle.standing.specs.Loads.{stands, text_fault, text_fault_by, declaration_at, load_refusal, unload_refusal}
-use Rattle.standing.specs.Knowledge.{slot_text, texts_in}
+use Rattle.standing.specs.Knowledge.{text_of, texts_in}
 
--- the slot read at u says whether the unit stands
-pub slot_at : (slots : List Slot) (u : ℕ) (d : Slot) → u < length slots → get_or (texts_in slots) u None ≡ slot_text (get_or slots u d)
-slot_at slots u d h = get_or-map slot_text slots u d None h
+pub text_at : (texts : List (Option UnitText)) (u : ℕ) (d : Option UnitText) → u < length texts → get_or (texts_in texts) u None ≡ text_of (get_or texts u d)
+text_at texts u d h = get_or-map text_of texts u d None h
 
-pub set_slot : (slots : List Slot) (u : ℕ) (s : Slot) (t : Option (List ℕ)) → slot_text s ≡ t → texts_in (set slots u s) ≡ set (texts_in slots) u t
-set_slot slots u s t e = map-set slot_text slots u s ∙ ap (set (texts_in slots) u) e
-
-pub none_stands : (o : Option (List ℕ)) → is_some o ≡ false → o ≡ None
-none_stands None e = refl
-none_stands (Some t) e = let z : ◌≡◌ {A = ℕ} 0 1 = cc in absurd (omega arith)
+pub none_there : {X : Type 0} (o : Option X) → is_some o ≡ false → o ≡ None
+none_there None e = refl
+none_there (Some x) e = let z : ◌≡◌ {A = ℕ} 0 1 = cc in absurd (omega arith)
 
 -- ---- the text alone
 
@@ -60,13 +57,13 @@ accepted text e = go (outcome (read text)) refl (fault_in text) refl e
 -- ---- in the order of the reasons
 
 module _ (units : Units) (u : ℕ) where
-  pub unload_outside : 7 < u → unload_refusal units u ≡ Some NoSuchUnit
+  pub unload_refused : (f : UnitRefusal) → get_or units u None ≡ None → f ≡ cond (ltb 7 u) NoSuchUnit NothingStands → unload_refusal units u ≡ Some f
   unfolding unload_refusal
-  unload_outside h = rw (lt-ltb 7 u h)
-
-  pub unload_nothing : u ≤ 7 → stands units u ≡ false → unload_refusal units u ≡ Some NothingStands
-  unfolding unload_refusal
-  unload_nothing inside e = rw (le-ltb 7 u inside, e)
+  unload_refused f none is = go (ltb 7 u) refl ∙ ap Some (sym is)
+    where
+      go : (b : Bool) → ltb 7 u ≡ b → unload_refusal units u ≡ Some (cond b NoSuchUnit NothingStands)
+      go true e = rw e
+      go false e = rw (e, none)
 
   pub unload_accepted : u ≤ 7 → stands units u ≡ true → unload_refusal units u ≡ None
   unfolding unload_refusal

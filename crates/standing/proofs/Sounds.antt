@@ -6,15 +6,13 @@ use native.Mathlib.Decide.{ℕ_discrete}
 use std.HLevel.{Π_prop}
 use denote.Struct.Props.{props}
 use Rattle.grammar.specs.declared.unit.UnitFault.{UnitFault}
-use Rattle.declarations.specs.declared.check.DeclarationMemory.{DeclarationMemory}
+use Rattle.grammar.specs.declared.unit_text.UnitText.{UnitText}
 use Rattle.names.specs.declared.record.NameRecord.{NameRecord}
 use Rattle.names.specs.declared.table.NameTable.{NameTable}
 use Rattle.names.specs.Notes.{note_of}
 use Rattle.names.specs.Held.{held, notes}
 use Rattle.books.specs.Books.{Units, standing, table, words, indirect_calls, Book, Book-prop}
 use Rattle.books.proofs.Loads.{nothing_stands}
-use Rattle.standing.specs.declared.held.HeldUnits.{HeldUnits}
-use Rattle.standing.specs.declared.slot.Slot.{Slot}
 use Rattle.std.proofs.lemmas.Bool.{true≢false}
 use Rattle.standing.specs.declared.refusal.UnitRefusal.{UnitRefusal}
 use Rattle.standing.specs.declared.standing_units.StandingUnits.{StandingUnits}
@@ -22,7 +20,7 @@ use Rattle.standing.specs.Firsts.{first_in, laid_first}
 use Rattle.standing.specs.Loads.{unless}
 use Rattle.standing.specs.Refusals.{done_or}
 use Rattle.standing.specs.States.{units_of, LaidOut}
-use Rattle.standing.specs.Knowledge.{slot_text, size_in, units_in, defined_in, Sound, Sound-prop, Knows-prop}
+use Rattle.standing.specs.Knowledge.{size_in, units_in, defined_in, Sound, Sound-prop, Knows-prop}
 
 option_discrete : Discrete (Option ℕ)
 option_discrete None None = yes refl
@@ -35,8 +33,9 @@ book_fact texts =
     Book-prop (Π_prop (λ t. Π_prop (λ m. hedberg option_discrete _ _)))
     (Π_prop (λ t. Π_prop (λ u. Π_prop (λ n. Π_prop (λ a. Π_prop (λ b. Π_prop (λ x. Π_prop (λ y. hlevel props)))))))) (hlevel props) (hlevel props) (hlevel props) (hlevel props)
 
-pub is_sound : {h : HeldUnits} → ∥ Sound h ∥₁ → Sound h
-is_sound {h} s = ∥∥₁_elim s (Sound-prop (hlevel props) (book_fact _) (hlevel props) (Knows-prop (hlevel props) (hlevel props) (hlevel props)) (hlevel props) (hlevel props)) (λ x. x)
+pub is_sound : {texts : List (Option UnitText)} {names : NameTable} {word_count call_count : ℕ}
+    → ∥ Sound texts names word_count call_count ∥₁ → Sound texts names word_count call_count
+is_sound s = ∥∥₁_elim s (Sound-prop (hlevel props) (book_fact _) (hlevel props) (Knows-prop (hlevel props) (hlevel props) (hlevel props)) (hlevel props) (hlevel props)) (λ x. x)
 
 -- a text that is admitted, as the passes ask for it
 pub was_read : (r : Result (Unit {0}) UnitFault) → is_ok r ≡ true → Ok tt ≡ r
@@ -44,17 +43,16 @@ was_read (Ok done) e = refl
 was_read (Err f) e = let z : ◌≡◌ {A = ℕ} 0 1 = cc in absurd (omega arith)
 
 -- nothing stands, and no name is known
-pub new_sound : (slot : Slot) (t : NameTable) (m : DeclarationMemory) → slot_text slot ≡ None → held t ≡ []
-    → Sound (record { slots = replicate 8 slot; names = t; words = 0; calls = 0; memory = m })
+pub new_sound : (t : NameTable) → held t ≡ [] → Sound (replicate 8 None) t 0 0
 unfolding table words indirect_calls
-new_sound slot t m free new =
+new_sound t new =
     record {
       eight = refl;
-      book = rw free nothing_stands;
-      admitted = rw free (λ x x_in. absurd x_in);
-      known = rw free (record { sizes = λ n. ap size_in (unknown n); counts = λ n. ap units_in (unknown n); defined = λ n. ap defined_in (unknown n) });
-      words_counted = rw free;
-      calls_counted = rw free;
+      book = nothing_stands;
+      admitted = λ x x_in. absurd x_in;
+      known = record { sizes = λ n. ap size_in (unknown n); counts = λ n. ap units_in (unknown n); defined = λ n. ap defined_in (unknown n) };
+      words_counted = refl;
+      calls_counted = refl;
     }
   where
     unknown : (n : List ℕ) → notes t n ≡ None
@@ -62,7 +60,7 @@ new_sound slot t m free new =
 
 -- a refused load or unload leaves the units, and with the same names they are laid out as before
 pub still_laid_out : (before after : StandingUnits) (o : Option UnitRefusal) (new : Units) (r : Result (Unit {0}) UnitRefusal) → r ≡ done_or o → is_ok r ≡ false
-    → units_of after ≡ unless o new (units_of before) → after.held.names ≡ before.held.names → LaidOut before → LaidOut after
+    → units_of after ≡ unless o new (units_of before) → after.names ≡ before.names → LaidOut before → LaidOut after
 unfolding LaidOut
 still_laid_out before after None new r e refused changed same laid = absurd (true≢false (ap is_ok (sym e) ∙ refused))
 still_laid_out before after (Some f) new r e refused changed same laid =

@@ -6,7 +6,7 @@ use Rattle.declarations.specs.Declarations.{Mention}
 use Rattle.declarations.specs.Meanings.{declaration_in}
 use Rattle.names.specs.declared.record.Note.{Note}
 use Rattle.names.specs.declared.table.NameTable.{NameTable}
-use Rattle.names.specs.declared.inner.TableFull.{TableFull}
+use Rattle.names.specs.declared.table.TableFull.{TableFull}
 use Rattle.names.specs.Notes.{lowered, then_note, with_note}
 use Rattle.names.specs.Tables.{mention_reply, after_mention, mention_adds}
 use Rattle.names.specs.Held.{notes, variables_of}

@@ -1,5 +1,5 @@
 -- The first variables of blocks, as the table of names has them.
-use Rattle.std.specs.Prelude.{◌≡◌, ℕ, ◌≤◌, cond, List, [], Some, None, Option, nat_lt}
+use Rattle.std.specs.Prelude.{◌≡◌, ℕ, ◌≤◌, cond, List, [], Some, None, Option, unwrap_or, nat_lt}
 use Rattle.constraints.specs.Constraint.{variables}
 use Rattle.grammar.specs.Grammar.{Place}
 use Rattle.declarations.specs.Declarations.{Entry, size_of, has_slot}
@@ -13,18 +13,18 @@ use Rattle.names.specs.declared.table.NameTable.{NameTable}
 use Rattle.names.specs.Held.{notes}
 use Rattle.standing.specs.Knowledge.{size_in}
 
--- where the block is laid out; 256 is nowhere
-abbrev pub first_in : Option Note → ℕ
-first_in None = 256
+-- where the block is laid out
+abbrev pub first_in : Option Note → Option ℕ
+first_in None = None
 first_in (Some note) = note.first
 
+-- 0 where no block is laid out
 abbrev pub first_at : Option Note → ℕ
-first_at None = 0
-first_at (Some note) = cond (nat_lt note.first 256) note.first 0
+first_at note = unwrap_or (first_in note) 0
 
 -- the first variable of a name that has a block among these
-abbrev pub laid_first : List Entry → List ℕ → ℕ
-laid_first es n = cond (nat_lt 0 (size_of es n)) (first_of es n) 256
+abbrev pub laid_first : List Entry → List ℕ → Option ℕ
+laid_first es n = cond (nat_lt 0 (size_of es n)) (Some (first_of es n)) None
 
 -- the first variable of each name; 0 where no block is laid out
 abbrev pub firsts_of : NameTable → List ℕ → ℕ

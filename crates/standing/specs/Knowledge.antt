@@ -1,20 +1,21 @@
--- What the slots hold, and what the table of names knows of the standing texts.
-use Rattle.std.specs.Prelude.{◌≡◌, ℕ, suc, Bool, true, false, List, map, length, is_ok, Some, None, Option, nat_lt}
+-- What texts stand, and what the table of names knows of the standing texts.
+use Rattle.std.specs.Prelude.{◌≡◌, ℕ, suc, Bool, true, false, List, map, length, is_ok, Some, None, Option, option_map, nat_lt}
+use Rattle.grammar.specs.declared.unit_text.UnitText.{UnitText}
+use Rattle.grammar.specs.Texts.{text_in}
 use Rattle.grammar.specs.Units.{outcome, read}
 use Rattle.declarations.specs.Declarations.{size_of}
 use Rattle.names.specs.declared.record.Note.{Note}
+use Rattle.names.specs.declared.table.NameTable.{NameTable}
 use Rattle.names.specs.Held.{notes}
 use Rattle.books.specs.Members.{◌∈◌}
 use Rattle.books.specs.Books.{Units, standing, table, words, indirect_calls, declaring, defining, Book}
-use Rattle.standing.specs.declared.slot.Slot.{Slot}
-use Rattle.standing.specs.declared.held.HeldUnits.{HeldUnits}
-use Rattle.standing.specs.Slots.{text_or_none}
 
-abbrev pub slot_text : Slot → Option (List ℕ)
-slot_text s = text_or_none s.standing s.len s.bytes
+abbrev pub text_of : Option UnitText → Option (List ℕ)
+text_of text = option_map text_in text
 
-abbrev pub texts_in : List Slot → Units
-texts_in slots = map slot_text slots
+-- under each unit number the text or none
+abbrev pub texts_in : List (Option UnitText) → Units
+texts_in texts = map text_of texts
 
 -- what a note says of a name; a name without a note has no block
 abbrev pub size_in : Option Note → ℕ
@@ -37,11 +38,11 @@ pub record Knows (known : List ℕ → Option Note) (texts : List (List ℕ)) : 
   deriving IsProp as Knows-prop
 
 -- the texts are units and can stand together, the table knows their names, and their words and indirect calls are counted
-pub record Sound (h : HeldUnits) : Type 0 where
-  pub eight : length h.slots ≡ 8
-  pub book : Book (standing (texts_in h.slots))
-  pub admitted : (t : List ℕ) → t ∈ standing (texts_in h.slots) → is_ok (outcome (read t)) ≡ true
-  pub known : Knows (notes h.names) (standing (texts_in h.slots))
-  pub words_counted : h.words ≡ length (words (standing (texts_in h.slots)))
-  pub calls_counted : h.calls ≡ length (indirect_calls (standing (texts_in h.slots)))
+pub record Sound (slots : List (Option UnitText)) (names : NameTable) (word_count call_count : ℕ) : Type 0 where
+  pub eight : length slots ≡ 8
+  pub book : Book (standing (texts_in slots))
+  pub admitted : (t : List ℕ) → t ∈ standing (texts_in slots) → is_ok (outcome (read t)) ≡ true
+  pub known : Knows (notes names) (standing (texts_in slots))
+  pub words_counted : word_count ≡ length (words (standing (texts_in slots)))
+  pub calls_counted : call_count ≡ length (indirect_calls (standing (texts_in slots)))
   deriving IsProp as Sound-prop

@@ -1,5 +1,5 @@
 -- Names laid out, one block after another.
-use Rattle.std.specs.Prelude.{◌≡◌, ℕ, suc, ◌<◌, ◌≤◌, true, cond, List, [], ◌∷◌, ◌++◌, map, length, is_ok, Option, ◌==◌}
+use Rattle.std.specs.Prelude.{◌≡◌, ℕ, suc, ◌<◌, ◌≤◌, true, cond, List, [], ◌∷◌, ◌++◌, map, is_ok, Option, ◌==◌}
 use Rattle.std.specs.List.{flat_map, AllByRecursion}
 use Rattle.constraints.specs.Constraint.{variables}
 use Rattle.grammar.specs.Units.{outcome, read}
@@ -19,7 +19,6 @@ use Rattle.standing.specs.States.{owned_name, name_in_entry}
 -- the list has these blocks, and the table says where each name's is
 pub record Laid (units : Units) (es : List Entry) (known : List ℕ → Option Note) (l : UnitList) : Type 0 where
   pub few : variables (blocks es) ≤ 256
-  pub count : l.block_count ≡ length es
   pub total : l.variables ≡ variables (blocks es)
   pub lengths : (list_in l).blocks ≡ blocks es
   pub owned : map (owned_name units) (owners_in l) ≡ map name_in_entry es

@@ -1,4 +1,3 @@
-pub mod Slots
 pub mod Refusals
 pub mod Loads
 pub mod Calls

@@ -1,5 +1,7 @@
 -- The standing units, and what questions about them are answered.
-use Rattle.std.specs.Prelude.{◌≡◌, ℕ, List, [], take, drop, Some, None, Ok, Err, Option, Result, slice_index_or}
+use Rattle.std.specs.Prelude.{◌≡◌, ℕ, List, [], Some, None, Ok, Err, Option, Result, slice_index_or}
+use Rattle.lexemes.specs.declared.lexeme.Span.{Span}
+use Rattle.lexemes.specs.Texts.{name_in_text}
 use Rattle.units.specs.Words.{Cell}
 use Rattle.declarations.specs.Declarations.{Entry}
 use Rattle.names.specs.Held.{notes}
@@ -15,7 +17,7 @@ use Rattle.standing.specs.Knowledge.{texts_in}
 
 -- under each unit number the standing text or none
 abbrev pub units_of : StandingUnits → Units
-units_of s = texts_in s.held.slots
+units_of s = texts_in s.texts
 
 abbrev pub cell_number : Units → Option Cell → Option ℕ
 cell_number units None = None
@@ -34,17 +36,17 @@ pointer_or None (Some v) = Ok v
 abbrev pub pointer_reply : Units → ℕ → ℕ → Result ℕ UnitRefusal
 pointer_reply units u i = pointer_or (call_refusal units u i) (cell_number units (call_pointer units u i))
 
-abbrev pub bytes_in : Option (List ℕ) → Owner → List ℕ
-bytes_in None o = []
-bytes_in (Some t) o = take o.len (drop o.from t)
+abbrev pub bytes_in : Option (List ℕ) → Span → List ℕ
+bytes_in None span = []
+bytes_in (Some t) span = (name_in_text t span).bytes
 
 -- the name that a block belongs to, read where it is declared
 abbrev pub owned_name : Units → Owner → List ℕ
-owned_name units o = bytes_in (slice_index_or units o.unit None) o
+owned_name units o = bytes_in (slice_index_or units o.unit None) o.span
 
 abbrev pub name_in_entry : Entry → List ℕ
 name_in_entry e = e.name
 
 -- each name's block is laid out where the list has it
 unfoldable pub LaidOut : StandingUnits → Type 0
-LaidOut s = (n : List ℕ) → first_in (notes s.held.names n) ≡ laid_first (table (standing (units_of s))) n
+LaidOut s = (n : List ℕ) → first_in (notes s.names n) ≡ laid_first (table (standing (units_of s))) n

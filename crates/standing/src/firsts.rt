@@ -2,7 +2,7 @@
 ghost use Rattle.names.specs.Held.{notes};
 ghost use Rattle.standing.specs.Firsts.{first_at};
 
-use names::{NOWHERE, NameTable};
+use names::NameTable;
 use units::names::FirstVariables;
 
 #[derive(Drop)]
@@ -15,15 +15,9 @@ impl<'a> FirstVariables for Firsts<'a> {
 
     // 0 where no block is laid out.
     fn first_of(&self, name: &[u8]) -> u8 {
-        match self.names.find(name) {
-            Some(note) => {
-                if note.first < NOWHERE {
-                    note.first as u8
-                } else {
-                    0
-                }
-            }
-            None => 0,
-        }
+        self.names
+            .find(name)
+            .and_then(|note| note.first)
+            .unwrap_or(0)
     }
 }

@@ -2,12 +2,10 @@
 #![tactic(auto)]
 
 mod firsts;
-mod held;
 pub mod list;
 mod lister;
 mod lookup;
 mod passes;
 mod place;
 pub mod refusal;
-mod slot;
 pub mod standing_units;

@@ -1,28 +1,25 @@
 // The list of the standing units: blocks, words, and where each comes from.
-ghost use Rattle.std.specs.Prelude.{◌≤◌};
-
+use arrayvec::ArrayVec;
+use lexemes::lexeme::Span;
 use units::listing::ListedWord;
 
-// Where a block's name is first declared: its bytes in a unit's text.
+// Where a block's name is first declared: its span in a unit's text.
 #[derive(Clone, Copy)]
 pub struct Owner {
     pub unit: usize,
-    pub from: usize,
-    pub len: usize,
+    pub span: Span,
 }
 
 #[derive(Drop)]
 pub struct UnitList {
-    blocks: [u8; 256],
+    blocks: ArrayVec<u8, 256>,
+    // Stays: the owner of each block is beside the blocks, since hosts are lent the blocks as a slice.
     owners: [Owner; 256],
-    block_count: usize,
-    // the variables of the blocks
+    // how many variables the blocks have
     variables: u16,
-    words: [u32; 512],
+    words: ArrayVec<u32, 512>,
+    // Stays: where each word comes from is beside the words, since hosts are lent the words as a slice.
     listed: [ListedWord; 512],
-    word_count: usize,
-    ghost few_blocks: { block_count ≤ 256 },
-    ghost few_words: { word_count ≤ 512 },
 }
 
 mod parts;

@@ -11,7 +11,7 @@ ghost use Rattle.standing.specs.Firsts.{Places, known_variable, cell_if_within};
 use declarations::mention::has_slot;
 use grammar::item::Place;
 use lexemes::lexeme::bytes_of;
-use names::{NOWHERE, NameTable};
+use names::NameTable;
 use units::calls::call_pointer;
 use units::words::slot_number;
 
@@ -19,29 +19,18 @@ use units::words::slot_number;
 fn block_size(names: &NameTable, name: &[u8]) -> u32
     ensures { result ≡ size_in (notes names.now name.now) }
 {
-    match names.find(name) {
-        Some(note) => note.slots as u32 + 1,
-        None => 0,
-    }
+    names.find(name).map_or(0, |note| u32::from(note.slots) + 1)
 }
 
 // The variable at a slot of the name's block, if it has the slot.
 pub(crate) fn cell_variable(names: &NameTable, name: &[u8], slot: u16) -> Option<u8>
-    requires { slot ≤ 256 }
     ensures { (es : List Entry) → Places es (notes names.now) → result ≡ (if nat_lt slot (size_of es name.now) then Some (first_of es name.now + slot) else None) }
 {
-    match names.find(name) {
-        Some(note) => {
-            if slot > note.slots as u16 {
-                return None;
-            }
-            if note.first >= NOWHERE - slot {
-                return None;
-            }
-            Some((note.first + slot) as u8)
-        }
-        None => None,
+    let note = names.find(name)?;
+    if slot > u16::from(note.slots) {
+        return None;
     }
+    note.first?.checked_add(slot as u8)
 }
 
 // The variable of a place that is read from a text, if the name has the place's slot.
@@ -60,8 +49,6 @@ pub(crate) fn place_variable(names: &NameTable, text: &[u8], place: Place) -> Op
 pub(crate) fn pointer_variable(names: &NameTable, text: &[u8], i: usize) -> Option<u8>
     ensures { (es : List Entry) → Places es (notes names.now) → result ≡ cell_if_within es (pointer text.now i) }
 {
-    match call_pointer(text, i) {
-        Some(place) => cell_variable(names, bytes_of(text, place.base), slot_number(place.slot)),
-        None => None,
-    }
+    let place = call_pointer(text, i)?;
+    cell_variable(names, bytes_of(text, place.base), slot_number(place.slot))
 }

@@ -15,23 +15,17 @@ use names::{NameTable, Note, TableFull};
 fn is_definition(linkage: Linkage) -> bool
     ensures { result ≡ is_defined linkage }
 {
-    match linkage {
-        Linkage::Defined => true,
-        Linkage::External => false,
-    }
+    matches!(linkage, Linkage::Defined)
 }
 
 // Whether the name is known with another kind or count, or defined here and elsewhere.
 fn is_clash(known: Option<Note>, declaration: Declaration) -> bool
     ensures { result ≡ clashes_note (is_defined declaration.linkage) declaration.slots known }
 {
-    match known {
-        Some(note) => {
-            note.slots as u16 != declaration.slots
-                || is_definition(declaration.linkage) && note.defined
-        }
-        None => false,
-    }
+    known.is_some_and(|note| {
+        u16::from(note.slots) != declaration.slots
+            || is_definition(declaration.linkage) && note.defined
+    })
 }
 
 // The offset of the first declared name that clashes with what is known of it.

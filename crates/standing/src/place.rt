@@ -4,25 +4,26 @@ ghost use Rattle.grammar.specs.Units.{read, outcome};
 ghost use Rattle.declarations.specs.Declarations.{Entry, declarations_in};
 ghost use Rattle.names.specs.Held.{notes};
 ghost use Rattle.books.specs.Books.{Units, standing, table};
-ghost use Rattle.standing.specs.Knowledge.{slot_text, texts_in, Knows};
+ghost use Rattle.standing.specs.Knowledge.{text_of, texts_in, Knows};
 ghost use Rattle.standing.specs.Layout.{Laid, SameNotes, Fits, Layable, lay_entry, lay_all, StandingTexts};
 
 use crate::list::{Owner, UnitList};
-use crate::slot::Slot;
 use declarations::cursor::next_declaration;
+use grammar::unit_text::UnitText;
 use lexemes::lexeme::bytes_of;
-use names::{NOWHERE, NameTable};
+use names::NameTable;
 
 // Gives the name the next block, unless it has one.
 fn place_name(names: &mut NameTable, name: &[u8], owner: Owner, list: &mut UnitList)
     ensures same { SameNotes (notes names.old) (notes names.new) }
     ensures laid { (units : Units) (es : List Entry) (k : ℕ) → Fits units es (record { name = name.now; slots = k }) owner (notes names.old name.now) → Laid units es (notes names.old) list.old → Laid units (lay_entry es (record { name = name.now; slots = k })) (notes names.new) list.new }
 {
-    if let Some(note) = names.find(name) {
-        if note.first == NOWHERE {
-            names.place(name, list.variables());
-            list.push_block(note.slots.saturating_add(1), owner);
-        }
+    let Some(note) = names.find(name) else {
+        return;
+    };
+    if note.first.is_none() {
+        names.place(name, list.variables());
+        list.push_block(note.slots.saturating_add(1), owner);
     }
 }
 
@@ -33,30 +34,31 @@ fn place_names(names: &mut NameTable, text: &[u8], unit: usize, list: &mut UnitL
 {
     let mut at = 0;
     while let Some(found) = next_declaration(text, at) {
-        let name = bytes_of(text, found.name);
-        let from = found.name.from;
-        let len = name.len();
-        place_name(names, name, Owner { unit, from, len }, list);
+        let owner = Owner {
+            unit,
+            span: found.name,
+        };
+        place_name(names, bytes_of(text, found.name), owner, list);
         at = found.end;
     }
 }
 
 // Lays out the names of a unit, if one stands there.
-fn place_slot(names: &mut NameTable, slot: &Slot, unit: usize, list: &mut UnitList)
+fn place_unit(names: &mut NameTable, text: &Option<UnitText>, unit: usize, list: &mut UnitList)
     ensures same { SameNotes (notes names.old) (notes names.new) }
-    ensures laid { (units : Units) → slice_index_or units unit None ≡ slot_text slot.now → StandingTexts units → Knows (notes names.old) (standing units) → Laid units (table (standing (take unit units))) (notes names.old) list.old → Laid units (table (standing (take (unit + 1) units))) (notes names.new) list.new }
+    ensures laid { (units : Units) → slice_index_or units unit None ≡ text_of text.now → StandingTexts units → Knows (notes names.old) (standing units) → Laid units (table (standing (take unit units))) (notes names.old) list.old → Laid units (table (standing (take (unit + 1) units))) (notes names.new) list.new }
 {
-    if slot.is_standing() {
-        place_names(names, slot.text(), unit, list);
+    if let Some(text) = text {
+        place_names(names, text.as_slice(), unit, list);
     }
 }
 
 // Lays out the names of the standing units, by rising number.
-pub(crate) fn place_units(names: &mut NameTable, slots: &[Slot], list: &mut UnitList)
+pub(crate) fn place_units(names: &mut NameTable, texts: &[Option<UnitText>], list: &mut UnitList)
     ensures same { SameNotes (notes names.old) (notes names.new) }
-    ensures laid { StandingTexts (texts_in slots.now) → Knows (notes names.old) (standing (texts_in slots.now)) → Laid (texts_in slots.now) [] (notes names.old) list.old → Laid (texts_in slots.now) (table (standing (texts_in slots.now))) (notes names.new) list.new }
+    ensures laid { StandingTexts (texts_in texts.now) → Knows (notes names.old) (standing (texts_in texts.now)) → Laid (texts_in texts.now) [] (notes names.old) list.old → Laid (texts_in texts.now) (table (standing (texts_in texts.now))) (notes names.new) list.new }
 {
-    for u in 0..slots.len() {
-        place_slot(names, &slots[u], u, list);
+    for (unit, text) in texts.iter().enumerate() {
+        place_unit(names, text, unit, list);
     }
 }

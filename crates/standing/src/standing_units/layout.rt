@@ -7,6 +7,7 @@ ghost use Rattle.standing.specs.States.{units_of, LaidOut, owned_name, name_in_e
 
 use super::StandingUnits;
 use crate::list::UnitList;
+use crate::place::place_units;
 
 impl StandingUnits {
     // Makes the list, and lays out the names as it has them.
@@ -18,6 +19,11 @@ impl StandingUnits {
         ensures laid { LaidOut self.new }
         ensures book { Book (standing (units_of self.old)) }
     {
-        self.held.lay_out(list);
+        list.clear();
+        let mut names = self.names;
+        names.unplace_all();
+        place_units(&mut names, &self.texts, list);
+        list.fill(&names, &self.texts);
+        self.names = names;
     }
 }

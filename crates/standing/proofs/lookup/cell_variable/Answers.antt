@@ -1,22 +1,20 @@
-use Rattle.std.proofs.Common.{ℕ, ◌+◌, Some, ap, ◌∙◌, arith}
+use Rattle.std.proofs.Common.{◌≡◌, ◌+◌, ◌<◌, Some, ap, ◌∙◌, arith}
 use Rattle.names.specs.Held.{notes}
+use Rattle.books.specs.Tables.{first_of}
 use Rattle.standing.specs.Knowledge.{size_in}
 use Rattle.standing.specs.Firsts.{first_in}
-use Rattle.standing.proofs.Looking.{no_cell, cell_below, cell_there}
+use Rattle.standing.proofs.Looking.{laid_at, cell_below, cell_there, some_if}
 use Rattle.standing.proofs.lookup.cell_variable.Goals as goal
 
-pub returns-in-None : goal.returns-in-None
-returns-in-None c = λ es places. no_cell es (notes c.args.names.now) c.args.name.now c.args.slot places (omega (arith, ap size_in c.in-None.ensures))
-
-pub returns-then-slot-note : goal.returns-then-slot-note
-returns-then-slot-note c = λ es places. no_cell es (notes c.args.names.now) c.args.name.now c.args.slot places (omega (arith, ap size_in c.in-Some.ensures, c.if-slot-note.true))
-
-pub returns-then-note-slot : goal.returns-then-note-slot
-returns-then-note-slot c = λ es places.
-    let below = cell_below es (notes c.args.names.now) c.args.name.now c.args.slot places (omega (arith, ap size_in c.in-Some.ensures, c.if-slot-note.false)) in
-    absurd (omega (arith, below, ap first_in c.in-Some.ensures, c.if-note-slot.true, c.requires))
-
-pub returns-else-note-slot : goal.returns-else-note-slot
-returns-else-note-slot c = λ es places.
-    ap (λ (v : ℕ). Some (v + c.args.slot)) (ap first_in c.in-Some.ensures)
-    ∙ cell_there es (notes c.args.names.now) c.args.name.now c.args.slot places (omega (arith, ap size_in c.in-Some.ensures, c.if-slot-note.false))
+pub returns : goal.returns
+returns c = λ es places.
+    let known = notes c.args.names.now in
+    let n = c.args.name.now in
+    let k = c.args.slot in
+    let inside : k < size_in (known n) = omega (arith, ap size_in c.in_ok-note.ensures, c.if-slot-from.false, c.from.ensures) in
+    let there = laid_at es known n k places (omega (arith, inside)) in
+    let noted = ap first_in c.in_ok-note.ensures in
+    let was = c.in_ok-note-2.was in
+    let first : c.in_ok-note-2.field-0 ≡ first_of es n = cc in
+    some_if c.checked_add.result _ _ c.checked_add.ensures (omega (arith, first, cell_below es known n k places (omega (arith, inside))))
+    ∙ ap (λ v. Some (v + k)) first ∙ cell_there es known n k places (omega (arith, inside))

@@ -8,16 +8,16 @@ use Rattle.standing.specs.Firsts.{cell_if_within}
 use Rattle.standing.proofs.lookup.pointer_variable.Goals as goal
 
 abbrev name : goal.After-cell_variable → List ℕ
-name c = (name_in_text c.args.text.now c.in-Some.place.base).bytes
+name c = (name_in_text c.args.text.now c.in_ok-place.place.base).bytes
 
-pub returns-in-Some : goal.returns-in-Some
+pub returns : goal.returns
 unfolding pointer
-returns-in-Some c = λ es places.
+returns c = λ es places.
     c.cell_variable.ensures es places
     ∙ ap (λ (n : List ℕ). cond (ltb c.slot_number.result (size_of es n)) (Some (first_of es n + c.slot_number.result)) None) c.bytes_of.ensures
     ∙ ap (λ (k : ℕ). cond (ltb k (size_of es (name c))) (Some (first_of es (name c) + k)) None) c.slot_number.ensures.is
-    ∙ ap (λ (o : Option Place). cell_if_within es (cell_if o)) c.in-Some.ensures
+    ∙ ap (λ (o : Option Place). cell_if_within es (cell_if o)) c.in_ok-place.ensures
 
-pub returns-in-None : goal.returns-in-None
+pub returns-in_err-place : goal.returns-in_err-place
 unfolding pointer
-returns-in-None c = λ es places. ap (λ (o : Option Place). cell_if_within es (cell_if o)) c.in-None.ensures
+returns-in_err-place c = λ es places. c.from_residual.ensures ∙ ap (λ (o : Option Place). cell_if_within es (cell_if o)) c.in_err-place.ensures

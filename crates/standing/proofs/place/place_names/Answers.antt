@@ -24,10 +24,10 @@ loop-found-preserved c =
           rest_then _ (rest_here (c.loop-found.invariant.1 units es there admitted can laid) _ c.next_declaration.ensures.next _ c.in-Some.is)
           (λ ds h.
           let (fs, laid-so-far, can-here, all) = h in
-          let fits = fits_one units fs text c.args.unit c.in-Some.found ds _ known there c.bytes_of-name.ensures can-here in
-          let next = can_more units fs text c.args.unit c.in-Some.found ds _ known there c.bytes_of-name.ensures can-here after same in
-          let step = lay_here units fs text c.args.unit c.in-Some.found ds _ known there c.bytes_of-name.ensures can-here in
-          (lay_entry fs (record { name = c.bytes_of-name.result.now; slots = c.in-Some.found.slots }), c.place_name.ensures.laid units fs c.in-Some.found.slots fits laid-so-far, next, sym step ∙ all)),
+          let fits = fits_one units fs text c.args.unit c.in-Some.found ds _ known there c.bytes_of.ensures can-here in
+          let next = can_more units fs text c.args.unit c.in-Some.found ds _ known there c.bytes_of.ensures can-here after same in
+          let step = lay_here units fs text c.args.unit c.in-Some.found ds _ known there c.bytes_of.ensures can-here in
+          (lay_entry fs (record { name = c.bytes_of.result.now; slots = c.in-Some.found.slots }), c.place_name.ensures.laid units fs c.in-Some.found.slots fits laid-so-far, next, sym step ∙ all)),
     )
 
 pub returns : goal.returns

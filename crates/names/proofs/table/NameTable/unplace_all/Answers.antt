@@ -1,12 +1,23 @@
-use Rattle.names.specs.Notes.{width}
+use Rattle.std.proofs.Common.{take, ap, ◌∙◌, subst, sym}
+use Rattle.std.proofs.lemmas.List.{take-map}
+use Rattle.names.specs.Notes.{unplaced, note_of, total, width}
+use Rattle.names.specs.Tables.{Sound}
+use Rattle.names.specs.Held.{held}
 use Rattle.names.proofs.Sounds.{is_sound}
+use Rattle.names.proofs.Rewriting.{unplaced_notes, unplaced_widths, sound_unplaced}
 use Rattle.names.proofs.table.NameTable.unplace_all.Goals as goal
 
-pub unplace_all-requires : goal.unplace_all-requires
-unplace_all-requires c = is_sound c.args.self.now.sound
-
 pub invariant_of-self : goal.invariant_of-self
-invariant_of-self c = record { sound = ∣ c.unplace_all.ensures.sound ∣₁ }
+invariant_of-self c =
+    let t = c.args.self.now in
+    record { sound = ∣ subst (λ rs. Sound rs t.used t.variables t.heads t.links) (sym c.unplace.ensures) (sound_unplaced (is_sound t.sound)) ∣₁ }
 
-pub returns : goal.returns
-returns c = record { after = c.unplace_all.ensures.after.noted; variables = c.unplace_all.ensures.after.totals width }
+pub returns-clause-after : goal.returns-clause-after
+returns-clause-after c = λ n.
+    let t = c.args.self.now in
+    ap (λ rs. note_of (take t.used rs) n) c.unplace.ensures ∙ ap (λ rs. note_of rs n) (take-map unplaced t.used t.records) ∙ unplaced_notes (held t) n
+
+pub returns-clause-variables : goal.returns-clause-variables
+returns-clause-variables c =
+    let t = c.args.self.now in
+    ap (λ rs. total width (take t.used rs)) c.unplace.ensures ∙ ap (total width) (take-map unplaced t.used t.records) ∙ unplaced_widths (held t)

@@ -8,21 +8,21 @@ use Rattle.standing.proofs.Sounds.{is_sound}
 use Rattle.standing.proofs.Answering.{places_of, place_number}
 use Rattle.standing.proofs.standing_units.StandingUnits.place.Goals as goal
 
-pub returns-in-Some : goal.returns-in-Some
+pub returns-in_err-place : goal.returns-in_err-place
 unfolding place_among
-returns-in-Some c =
+returns-in_err-place c =
     let units = units_of c.args.self.now in
     record {
-      found = λ laid. c.place_variable.ensures (table (standing units)) (places_of c.args.self.now laid) ∙ place_number units (place_in c.args.text.now c.in-Some.place)
-          ∙ ap (λ (o : Option Place). cell_number units (known_cell (standing units) o)) c.in-Some.ensures.is;
+      found = λ laid. c.from_residual.ensures ∙ ap (λ (o : Option Place). cell_number units (known_cell (standing units) o)) c.in_err-place.ensures.is;
       book = (is_sound c.args.self.now.sound).book;
     }
 
-pub returns-in-None : goal.returns-in-None
+pub returns : goal.returns
 unfolding place_among
-returns-in-None c =
+returns c =
     let units = units_of c.args.self.now in
     record {
-      found = λ laid. ap (λ (o : Option Place). cell_number units (known_cell (standing units) o)) c.in-None.ensures.is;
+      found = λ laid. c.place_variable.ensures (table (standing units)) (places_of c.args.self.now laid) ∙ place_number units (place_in c.args.text.now c.in_ok-place.place)
+          ∙ ap (λ (o : Option Place). cell_number units (known_cell (standing units) o)) c.in_ok-place.ensures.is;
       book = (is_sound c.args.self.now.sound).book;
     }
