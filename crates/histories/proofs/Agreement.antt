@@ -1,16 +1,15 @@
 -- Questions asked of two settled analysers with the same texts.
-use Rattle.std.proofs.Common.{◌≡◌, ℕ, zero, suc, ◌+◌, ◌<◌, true, List, length, take, sym, refl, ap, ◌∙◌, subst₂, arith}
+use Rattle.std.proofs.Common.{◌≡◌, ℕ, zero, suc, ◌+◌, ◌<◌, true, List, length, take, Ok, sym, refl, ap, ◌∙◌, subst₂, arith}
 use Rattle.std.proofs.lemmas.List.{ext_get_or}
 use Rattle.engine.specs.Meanings.{Rule}
 use Rattle.books.specs.Books.{SameTexts, Book as Lawful}
 use Rattle.histories.specs.declared.call.Question.{Question}
 use Rattle.histories.specs.declared.call.Call.{Call}
 use Rattle.histories.specs.declared.call.Call.TheVariants.{Ask}
-use Rattle.histories.specs.declared.call.Reply.{Reply}
-use Rattle.histories.specs.declared.call.Reply.TheVariants.{Settled}
+use Rattle.histories.specs.declared.call.Answer.TheVariants.{Settled}
 use Rattle.host_analyser.specs.Books.{Book, texts_of}
 use Rattle.histories.specs.Books.{book_from, next_book}
-use Rattle.histories.specs.Says.{Says, Answers}
+use Rattle.histories.specs.Says.{Reply, Says, Answers}
 use Rattle.histories.specs.Histories.{History, AllQuestions, call_at, reply_at}
 use Rattle.histories.proofs.Answered.{answers_alike}
 use Rattle.histories.proofs.Runs.{book_after}
@@ -35,7 +34,7 @@ pub questions_alike : (rule other_rule : Rule) (b c : Book) → Lawful (texts_of
     → (rs ss : List Reply) → History rule b further rs → History other_rule c further ss → b.settled ≡ true → c.settled ≡ true
     → SameTexts b.units c.units → rs ≡ ss
 questions_alike rule other_rule b c one other further questions rs ss first second b_settled c_settled same =
-    ext_get_or Settled rs ss (first.answered ∙ sym second.answered)
+    ext_get_or (Ok Settled) rs ss (first.answered ∙ sym second.answered)
     (λ i h. let k : i < length further = omega (arith, first.answered) in
     let (q, is) = questions i k in
     answers_alike b c one other b_settled c_settled same q (reply_at rs i) (reply_at ss i)

@@ -1,5 +1,5 @@
 -- A reply from the smallest solution is one about every solution, and the other way round.
-use Rattle.std.proofs.Common.{◌≡◌, ℕ, Bool, true, false, cond, T, ◌↔◌, List, Some, None, Ok, Err, Decides, MatchBool, Option, Result, sym, refl, ap, ◌∙◌, arith}
+use Rattle.std.proofs.Common.{◌≡◌, ℕ, Bool, true, false, cond, T, ◌↔◌, List, Some, None, Ok, Err, Decides, MatchBool, MatchResult, IsOkAnd, Option, Result, sym, refl, ap, ◌∙◌, arith}
 use Rattle.units.specs.Words.{Cell}
 use Rattle.books.specs.Books.{SameTexts, Book as Lawful}
 use Rattle.books.specs.Replies.{place_among, name_in, has_object, shares, asked, points, alias}
@@ -8,12 +8,17 @@ use Rattle.books.proofs.Solutions.{points_in_every, alias_in_every}
 use Rattle.books.proofs.Units.{texts_within}
 use Rattle.histories.specs.declared.call.Question.{Question}
 use Rattle.histories.specs.declared.call.Question.TheVariants.{Points, Alias}
-use Rattle.histories.specs.declared.call.Reply.{Reply}
-use Rattle.histories.specs.declared.call.Reply.TheVariants.{Answer, Refused}
+use Rattle.histories.specs.declared.call.Answer.TheVariants.{Whether}
 use Rattle.host_analyser.specs.declared.refusal.Refusal.{Refusal}
 use Rattle.host_analyser.specs.declared.refusal.Refusal.TheVariants.{NotSettled, NoPlace, Unknown}
 use Rattle.host_analyser.specs.Books.{Book, texts_of}
-use Rattle.histories.specs.Says.{Answers, QuestionSays, PointsSays, AliasSays, answer_of}
+use Rattle.histories.specs.Says.{Reply, Answers, QuestionSays, PointsSays, AliasSays, answer_of}
+
+-- a question's result with its answer put into a reply
+pub mapped : (r : Result Bool Refusal) (s : Reply) → MatchResult r (λ x. IsOkAnd s (λ a. a ≡ Whether x)) (λ f. s ≡ Err f) → s ≡ answer_of r
+mapped (Ok x) (Ok a) h = ap Ok h
+mapped (Ok x) (Err f) h = absurd h
+mapped (Err f) s h = h
 
 decided : (b : Bool) (P : Type 0) → T b ↔ P → Decides b P
 decided true P (there, back) = (λ e. there tt, λ p. refl)
@@ -58,14 +63,14 @@ module _ (texts : List (List ℕ)) (lawful : Lawful texts) where
   points_said p n None e m f r is = is
   points_said p n (Some c) e None f r is = is
   points_said p n (Some c) e (Some k) f r (b, is, d) =
-      is ∙ ap Answer (settled_by b (has_object texts c k) _ d (points_in_every texts lawful c k ((known_is_within texts p).0 c e) ((known_is_within texts n).1 k f)))
+      is ∙ ap (λ x. Ok (Whether x)) (settled_by b (has_object texts c k) _ d (points_in_every texts lawful c k ((known_is_within texts p).0 c e) ((known_is_within texts n).1 k f)))
 
   alias_said : (p q : List ℕ) (o : Option Cell) → place_among texts p ≡ o → (m : Option Cell) → place_among texts q ≡ m → (r : Reply)
       → AliasSays texts o m r → r ≡ answer_of (asked NoPlace o (λ c. asked Unknown m (λ d. Ok (shares texts c d))))
   alias_said p q None e m f r is = is
   alias_said p q (Some c) e None f r is = is
   alias_said p q (Some c) e (Some d) f r (b, is, dec) =
-      is ∙ ap Answer (settled_by b (shares texts c d) _ dec (alias_in_every texts lawful c d ((known_is_within texts p).0 c e) ((known_is_within texts q).0 d f)))
+      is ∙ ap (λ x. Ok (Whether x)) (settled_by b (shares texts c d) _ dec (alias_in_every texts lawful c d ((known_is_within texts p).0 c e) ((known_is_within texts q).0 d f)))
 
   pub question_said : (q : Question) (r : Reply) → QuestionSays texts q r → r ≡ answer_of (least_answer texts q)
   question_said (Points p n) r says = points_said p.now n.now (place_among texts p.now) refl (name_in texts n.now) refl r says
@@ -77,11 +82,11 @@ pub answers_by : (b : Book) → (b.settled ≡ true → Lawful (texts_of b)) →
 answers_by b lawful q r is = go b.settled refl is
   where
     go : (s : Bool) → b.settled ≡ s → r ≡ answer_of (cond s (least_answer (texts_of b) q) (Err NotSettled))
-        → MatchBool s (QuestionSays (texts_of b) q r) (r ≡ Refused NotSettled)
+        → MatchBool s (QuestionSays (texts_of b) q r) (r ≡ Err NotSettled)
     go true e is = question_says (texts_of b) (lawful e) q r is
     go false e is = is
 
-once_settled : (texts : List (List ℕ)) (q : Question) (r : Reply) (x : Bool) → x ≡ true → MatchBool x (QuestionSays texts q r) (r ≡ Refused NotSettled) → QuestionSays texts q r
+once_settled : (texts : List (List ℕ)) (q : Question) (r : Reply) (x : Bool) → x ≡ true → MatchBool x (QuestionSays texts q r) (r ≡ Err NotSettled) → QuestionSays texts q r
 once_settled texts q r true e says = says
 once_settled texts q r false e says = absurd (let z : ◌≡◌ {A = ℕ} 0 1 = cc e in omega arith)
 

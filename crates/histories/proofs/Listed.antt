@@ -14,8 +14,7 @@ use Rattle.host_analyser.specs.declared.refusal.Refusal.TheVariants.{NotSettled,
 use Rattle.host_analyser.specs.Books.{Book, texts_of}
 use Rattle.host_analyser.specs.Replies.{listing_of, pointer_or_refused, after_reply, targets_reply, targets_buffer}
 use Rattle.host_analyser.proofs.Targeted.{has_pointer, pointer_within}
-use Rattle.histories.specs.declared.call.Reply.{Reply}
-use Rattle.histories.specs.Says.{RepliesWith, ListsTargets, PointerSays, TargetsSays}
+use Rattle.histories.specs.Says.{Reply, RepliesWith, ListsTargets, PointerSays, TargetsSays}
 
 module _ (b : Book) (lawful : b.settled ≡ true → Lawful (texts_of b)) (u i : ℕ) (buffer : List ℕ) (r : Reply) where
   replied_by : (long : Bool) (bytes : List ℕ)
@@ -51,5 +50,5 @@ module _ (b : Book) (lawful : b.settled ≡ true → Lawful (texts_of b)) (u i :
           → MatchBool s (PointerSays b o p buffer r) (RepliesWith r (Err NotSettled) buffer)
       go false is o e p f says = says
       go true is (Some x) e p f says = says
-      go true is None e None f says = let (c, some) = has_pointer b.units u i e in absurd (let z : ◌≡◌ {A = ℕ} 0 1 = cc (f, some) in omega arith)
+      go true is None e None f says = let (c, some) = has_pointer b.units u i e in cc (f, some)
       go true is None e (Some c) f says = listed_for (lawful is) c f says

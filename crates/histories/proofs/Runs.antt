@@ -1,5 +1,5 @@
 -- Histories, one call after another.
-use Rattle.std.proofs.Common.{◌≡◌, ℕ, ◌+◌, ◌<◌, ◌≤◌, Bool, true, false, cond, List, [], ◌∷◌, ◌++◌, length, take, Some, None, MatchBool, Option, sym, refl, ap, ◌∙◌, subst₂, ⊎_elim, arith}
+use Rattle.std.proofs.Common.{◌≡◌, ℕ, ◌+◌, ◌<◌, ◌≤◌, Bool, true, false, cond, List, [], ◌∷◌, ◌++◌, length, take, Some, None, Ok, Err, MatchBool, Option, sym, refl, ap, ◌∙◌, subst₂, ⊎_elim, arith}
 use Rattle.std.proofs.lemmas.List.{take_more, take-append-le, take_at, get_or_append_left, get_or_at, length_push}
 use Rattle.std.proofs.lemmas.Bool.{cases_order}
 use Rattle.engine.specs.Meanings.{Rule}
@@ -7,37 +7,37 @@ use Rattle.standing.specs.declared.refusal.UnitRefusal.{UnitRefusal}
 use Rattle.standing.specs.Loads.{load_refusal, unload_refusal, unless}
 use Rattle.histories.specs.declared.call.Call.{Call}
 use Rattle.histories.specs.declared.call.Call.TheVariants.{Settle, Load, Unload, Ask, Targets}
-use Rattle.histories.specs.declared.call.Reply.{Reply}
-use Rattle.histories.specs.declared.call.Reply.TheVariants.{Settled, Loaded, Unloaded, Refused}
+use Rattle.histories.specs.declared.call.Answer.{Answer}
+use Rattle.histories.specs.declared.call.Answer.TheVariants.{Settled, Loaded, Unloaded}
 use Rattle.host_analyser.specs.declared.refusal.Refusal.{Refusal}
 use Rattle.host_analyser.specs.declared.refusal.Refusal.TheVariants.{SettledAlready, NoRoom}
 use Rattle.host_analyser.specs.declared.refusal.RoomFault.{RoomFault}
 use Rattle.host_analyser.specs.Books.{Book, new_book, book_list}
 use Rattle.histories.specs.Books.{next_book, book_from}
 use Rattle.host_analyser.specs.Replies.{OutOfRoom}
-use Rattle.histories.specs.Says.{Says, refused_or}
+use Rattle.histories.specs.Says.{Reply, Says, refused_or}
 use Rattle.histories.specs.Histories.{History, call_at, reply_at}
 
 -- where the reply is a refusal, one applied, and the book stays
-stays : (o : Option UnitRefusal) (done : Reply) (f : Refusal) (new old : Book) → (done ≡ Refused f → ⊥) → refused_or o done ≡ Refused f → unless o new old ≡ old
-stays None done f new old answered e = absurd (answered e)
-stays (Some g) done f new old answered e = refl
+stays : (o : Option UnitRefusal) (done : Answer) (f : Refusal) (new old : Book) → refused_or o done ≡ Err f → unless o new old ≡ old
+stays None done f new old e = cc e
+stays (Some g) done f new old e = refl
 
 -- a settle that is refused finds the book settled, or a list that does not fit
 settle_stays : (s fits : Bool) (rule : Rule) (b : Book) (r : Reply) (f : Refusal) → b.settled ≡ s
-    → MatchBool s (r ≡ Refused SettledAlready) (MatchBool fits (r ≡ Settled) ((x : RoomFault) × (r ≡ Refused (NoRoom x)) × OutOfRoom rule b x)) → r ≡ Refused f
+    → MatchBool s (r ≡ Err SettledAlready) (MatchBool fits (r ≡ Ok Settled) ((x : RoomFault) × (r ≡ Err (NoRoom x)) × OutOfRoom rule b x)) → r ≡ Err f
     → cond fits (record { units = b.units; settled = true }) b ≡ b
 settle_stays true true rule b r f e says refused = ap (λ s. record { units = b.units; settled = s }) (sym e)
 settle_stays true false rule b r f e says refused = refl
-settle_stays false true rule b r f e says refused = absurd (let z : ◌≡◌ {A = ℕ} 0 1 = cc (says, refused) in omega arith)
+settle_stays false true rule b r f e says refused = cc (says, refused)
 settle_stays false false rule b r f e says refused = refl
 
-pub refused_keeps : (rule : Rule) (b : Book) (c : Call) (r : Reply) (f : Refusal) → Says rule b c r → r ≡ Refused f → next_book rule b c ≡ b
+pub refused_keeps : (rule : Rule) (b : Book) (c : Call) (r : Reply) (f : Refusal) → Says rule b c r → r ≡ Err f → next_book rule b c ≡ b
 refused_keeps rule b Settle r f says refused = settle_stays b.settled (rule.fits (book_list b)) rule b r f refl says refused
 refused_keeps rule b (Load u t) r f says refused =
-    stays (load_refusal b.units u t.now) Loaded f _ b (λ e. let z : ◌≡◌ {A = ℕ} 0 1 = cc e in omega arith) (sym says ∙ refused)
+    stays (load_refusal b.units u t.now) Loaded f _ b (sym says ∙ refused)
 refused_keeps rule b (Unload u) r f says refused =
-    stays (unload_refusal b.units u) Unloaded f _ b (λ e. let z : ◌≡◌ {A = ℕ} 0 1 = cc e in omega arith) (sym says ∙ refused)
+    stays (unload_refusal b.units u) Unloaded f _ b (sym says ∙ refused)
 refused_keeps rule b (Ask q) r f says refused = refl
 refused_keeps rule b (Targets u i buffer) r f says refused = refl
 
@@ -70,10 +70,10 @@ module _ (rule : Rule) where
         earlier k =
             let le : i ≤ length cs = omega arith in
             let kr : i < length rs = omega (arith, so_far.answered) in
-            rw (take-append-le i cs (c ∷ []) le, get_or_append_left cs (c ∷ []) Settle i k, get_or_append_left rs (r ∷ []) Settled i kr) (so_far.each i k)
+            rw (take-append-le i cs (c ∷ []) le, get_or_append_left cs (c ∷ []) Settle i k, get_or_append_left rs (r ∷ []) (Ok Settled) i kr) (so_far.each i k)
 
         last : i ≡ length cs → Says rule (book_from rule b (take i (cs ++ (c ∷ [])))) (call_at (cs ++ (c ∷ [])) i) (reply_at (rs ++ (r ∷ [])) i)
-        last e = rw (take_at cs (c ∷ []) i (sym e), get_or_at cs c [] Settle i (sym e), get_or_at rs r [] Settled i (so_far.answered ∙ sym e)) said
+        last e = rw (take_at cs (c ∷ []) i (sym e), get_or_at cs c [] Settle i (sym e), get_or_at rs r [] (Ok Settled) i (so_far.answered ∙ sym e)) said
 
     pub history_more : History rule b (cs ++ (c ∷ [])) (rs ++ (r ∷ []))
     history_more = history_of b (cs ++ (c ∷ [])) (rs ++ (r ∷ [])) (length_push rs r ∙ ap (λ n. n + 1) so_far.answered ∙ sym (length_push cs c)) each_more

@@ -20,18 +20,22 @@ use Rattle.histories.specs.declared.call.Question.{Question}
 use Rattle.histories.specs.declared.call.Question.TheVariants.{Points, Alias}
 use Rattle.histories.specs.declared.call.Call.{Call}
 use Rattle.histories.specs.declared.call.Call.TheVariants.{Settle, Load, Unload, Ask, Targets}
-use Rattle.histories.specs.declared.call.Reply.{Reply}
-use Rattle.histories.specs.declared.call.Reply.TheVariants.{Settled, Loaded, Unloaded, Answer, Listed, Refused}
+use Rattle.histories.specs.declared.call.Answer.{Answer}
+use Rattle.histories.specs.declared.call.Answer.TheVariants.{Settled, Loaded, Unloaded, Whether, Listed}
+
+-- what a call is replied
+abbrev pub Reply : Type 0
+Reply = Result Answer Refusal
 
 -- refused for the reason that applies, or else answered
-abbrev pub refused_or : Option UnitRefusal → Reply → Reply
-refused_or None r = r
-refused_or (Some f) r = Refused (OfUnit f)
+abbrev pub refused_or : Option UnitRefusal → Answer → Reply
+refused_or None answer = Ok answer
+refused_or (Some f) answer = Err (OfUnit f)
 
 -- a question's result as a reply
 abbrev pub answer_of : Result Bool Refusal → Reply
-answer_of (Ok yes_or_no) = Answer yes_or_no
-answer_of (Err f) = Refused f
+answer_of (Ok yes_or_no) = Ok (Whether yes_or_no)
+answer_of (Err f) = Err f
 
 -- every solution of the texts makes it true
 abbrev pub InEverySolution : List (List ℕ) → (NamedRows → Type 0) → Type 0
@@ -39,17 +43,17 @@ InEverySolution texts P = (R : NamedRows) → SolutionOf texts R → P R
 
 -- an answer that is yes exactly when the fact holds
 abbrev pub SaysWhether : Reply → Type 0 → Type 0
-SaysWhether r fact = (yes : Bool) × (r ≡ Answer yes) × Decides yes fact
+SaysWhether r fact = (yes : Bool) × (r ≡ Ok (Whether yes)) × Decides yes fact
 
 -- the place and the name that a question is about
 abbrev pub PointsSays : List (List ℕ) → Option Cell → Option (List ℕ) → Reply → Type 0
-PointsSays texts None n r = r ≡ Refused NoPlace
-PointsSays texts (Some c) None r = r ≡ Refused Unknown
+PointsSays texts None n r = r ≡ Err NoPlace
+PointsSays texts (Some c) None r = r ≡ Err Unknown
 PointsSays texts (Some c) (Some n) r = SaysWhether r (InEverySolution texts (λ R. T (R c n)))
 
 abbrev pub AliasSays : List (List ℕ) → Option Cell → Option Cell → Reply → Type 0
-AliasSays texts None d r = r ≡ Refused NoPlace
-AliasSays texts (Some c) None r = r ≡ Refused Unknown
+AliasSays texts None d r = r ≡ Err NoPlace
+AliasSays texts (Some c) None r = r ≡ Err Unknown
 AliasSays texts (Some c) (Some d) r = SaysWhether r (InEverySolution texts (λ R. (n : List ℕ) × T (R c n) × T (R d n)))
 
 abbrev pub QuestionSays : List (List ℕ) → Question → Reply → Type 0
@@ -58,16 +62,16 @@ QuestionSays texts (Alias p q) r = AliasSays texts (place_among texts p.now) (pl
 
 -- an answer is yes exactly when every solution of the standing units makes it true
 abbrev pub Answers : Book → Question → Reply → Type 0
-Answers b q r = MatchBool b.settled (QuestionSays (texts_of b) q r) (r ≡ Refused NotSettled)
+Answers b q r = MatchBool b.settled (QuestionSays (texts_of b) q r) (r ≡ Err NotSettled)
 
 -- a target list's reply, and what the buffer then holds
 abbrev pub RepliesWith : Reply → Result ℕ Refusal → List ℕ → Type 0
-RepliesWith Settled outcome buffer = ⊥
-RepliesWith Loaded outcome buffer = ⊥
-RepliesWith Unloaded outcome buffer = ⊥
-RepliesWith (Answer yes_or_no) outcome buffer = ⊥
-RepliesWith (Refused f) outcome buffer = ⊥
-RepliesWith (Listed o v) outcome buffer = (o ≡ outcome) × (vec_items v ≡ buffer)
+RepliesWith (Ok Settled) outcome buffer = ⊥
+RepliesWith (Ok Loaded) outcome buffer = ⊥
+RepliesWith (Ok Unloaded) outcome buffer = ⊥
+RepliesWith (Ok (Whether yes_or_no)) outcome buffer = ⊥
+RepliesWith (Err f) outcome buffer = ⊥
+RepliesWith (Ok (Listed o v)) outcome buffer = (o ≡ outcome) × (vec_items v ≡ buffer)
 
 -- Exactly the functions that every solution gives the pointer, by rising object, each followed by byte 10. The rest of
 -- the buffer stays, and all of it where the list is longer.
@@ -91,7 +95,7 @@ TargetsSays b u i buffer r =
 
 -- what is replied to a call, over the book before it
 abbrev pub Says : Rule → Book → Call → Reply → Type 0
-Says rule b Settle r = SettleSays Settled Refused rule b r
+Says rule b Settle r = SettleSays (Ok Settled) Err rule b r
 Says rule b (Load u t) r = r ≡ refused_or (load_refusal b.units u t.now) Loaded
 Says rule b (Unload u) r = r ≡ refused_or (unload_refusal b.units u) Unloaded
 Says rule b (Ask q) r = Answers b q r

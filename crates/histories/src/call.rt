@@ -29,16 +29,19 @@ pub enum Call<'a> {
     },
 }
 
+// What a call that is not refused has done or found.
 #[derive(Drop)]
-pub enum Reply {
+pub enum Answer {
     Settled,
     Loaded,
     Unloaded,
-    Answer(bool),
-    // the bytes written or the refusal, and what the buffer then holds
+    Whether(bool),
+    // of a targets call, also a refused one: the bytes written or the refusal, and what the buffer then holds
     Listed {
         outcome: Result<usize, Refusal>,
         buffer: Vec<u8>,
     },
-    Refused(Refusal),
 }
+
+// What a call is answered.
+pub type Reply = Result<Answer, Refusal>;

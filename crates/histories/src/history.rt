@@ -2,13 +2,13 @@
 ghost use Rattle.std.specs.Prelude.{◌≡◌, IfOk, OnOk};
 ghost use Rattle.host_analyser.specs.Books.{new_book};
 ghost use Rattle.histories.specs.Books.{next_book, book_from};
-ghost use Rattle.histories.specs.Says.{answer_of, Answers, TargetsSays, Says};
+ghost use Rattle.histories.specs.Says.{Answers, TargetsSays, Says};
 ghost use Rattle.histories.specs.Histories.{History, Audited};
-ghost use Rattle.host_analyser.specs.States.{book_of, InStep};
+ghost use Rattle.host_analyser.specs.States.{book_of};
 
-use crate::{Call, Progress, Question, Reply};
+use crate::{Answer, Call, Progress, Question, Reply};
 use engine::Engine;
-use host_analyser::{Analyser, Refusal};
+use host_analyser::Analyser;
 use std::alloc::{AllocError, Global};
 
 // What two histories were replied, and then the further calls made of both.
@@ -20,26 +20,15 @@ pub struct AuditReport {
     pub second_further: Vec<Reply>,
 }
 
-fn answer(outcome: Result<bool, Refusal>) -> Reply
-    ensures { result ≡ answer_of outcome }
-{
-    match outcome {
-        Ok(yes) => Reply::Answer(yes),
-        Err(refusal) => Reply::Refused(refusal),
-    }
-}
-
 // Asks one question.
 fn ask<E: Engine>(analyser: &mut Analyser<E>, question: &Question) -> Reply
-    requires { InStep E.meaning E.sound analyser.old }
     ensures says { Answers (book_of analyser.old) question.now result }
     ensures book { book_of analyser.new ≡ book_of analyser.old }
     ensures rule { (E.meaning analyser.new.engine).rule ≡ (E.meaning analyser.old.engine).rule }
-    ensures keeps { InStep E.meaning E.sound analyser.new }
 {
     match *question {
-        Question::Points { place, name } => answer(analyser.points(place, name)),
-        Question::Alias { first, second } => answer(analyser.alias(first, second)),
+        Question::Points { place, name } => analyser.points(place, name).map(Answer::Whether),
+        Question::Alias { first, second } => analyser.alias(first, second).map(Answer::Whether),
     }
 }
 
@@ -51,15 +40,13 @@ fn list<E: Engine>(
     index: u32,
     before: &[u8],
 ) -> Result<Reply, AllocError>
-    requires { InStep E.meaning E.sound analyser.old }
     ensures says { IfOk result (λ s. TargetsSays (book_of analyser.old) unit index before.now s) }
     ensures book { book_of analyser.new ≡ book_of analyser.old }
     ensures rule { (E.meaning analyser.new.engine).rule ≡ (E.meaning analyser.old.engine).rule }
-    ensures keeps { InStep E.meaning E.sound analyser.new }
 {
     let mut buffer = before.to_vec(heap)?;
     let outcome = analyser.targets(unit, index, &mut buffer);
-    Ok(Reply::Listed { outcome, buffer })
+    Ok(Ok(Answer::Listed { outcome, buffer }))
 }
 
 // Makes one call.
@@ -68,25 +55,14 @@ fn make<E: Engine>(
     analyser: &mut Analyser<E>,
     call: &Call,
 ) -> Result<Reply, AllocError>
-    requires { InStep E.meaning E.sound analyser.old }
     ensures says { IfOk result (λ s. Says (E.meaning analyser.old.engine).rule (book_of analyser.old) call.now s) }
     ensures after { book_of analyser.new ≡ next_book (E.meaning analyser.old.engine).rule (book_of analyser.old) call.now }
     ensures rule { (E.meaning analyser.new.engine).rule ≡ (E.meaning analyser.old.engine).rule }
-    ensures keeps { InStep E.meaning E.sound analyser.new }
 {
     match *call {
-        Call::Settle => match analyser.settle() {
-            Ok(()) => Ok(Reply::Settled),
-            Err(refusal) => Ok(Reply::Refused(refusal)),
-        },
-        Call::Load { unit, text } => match analyser.load(unit, text) {
-            Ok(()) => Ok(Reply::Loaded),
-            Err(refusal) => Ok(Reply::Refused(refusal)),
-        },
-        Call::Unload { unit } => match analyser.unload(unit) {
-            Ok(()) => Ok(Reply::Unloaded),
-            Err(refusal) => Ok(Reply::Refused(refusal)),
-        },
+        Call::Settle => Ok(analyser.settle().map(|()| Answer::Settled)),
+        Call::Load { unit, text } => Ok(analyser.load(unit, text).map(|()| Answer::Loaded)),
+        Call::Unload { unit } => Ok(analyser.unload(unit).map(|()| Answer::Unloaded)),
         Call::Ask(question) => Ok(ask(analyser, &question)),
         Call::Targets {
             unit,
@@ -103,11 +79,9 @@ fn run<E: Engine, P: Progress>(
     calls: &[Call],
     progress: &mut P,
 ) -> Result<Vec<Reply>, AllocError>
-    requires { InStep E.meaning E.sound analyser.old }
     ensures says { IfOk result (λ v. History (E.meaning analyser.old.engine).rule (book_of analyser.old) calls.now v.items) }
     ensures after { OnOk result (book_of analyser.new ≡ book_from (E.meaning analyser.old.engine).rule (book_of analyser.old) calls.now) }
     ensures rule { OnOk result ((E.meaning analyser.new.engine).rule ≡ (E.meaning analyser.old.engine).rule) }
-    ensures keeps { OnOk result (InStep E.meaning E.sound analyser.new) }
 {
     let mut replies = Vec::new(heap);
     for c in calls {

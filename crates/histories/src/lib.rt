@@ -5,6 +5,6 @@ mod call;
 mod history;
 mod progress;
 
-pub use call::{Call, Question, Reply};
+pub use call::{Answer, Call, Question, Reply};
 pub use history::{AuditReport, audit, replay};
 pub use progress::Progress;

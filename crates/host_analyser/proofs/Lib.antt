@@ -1,4 +1,5 @@
 pub mod Refused
+pub mod Right
 pub mod Settled
 pub mod Objects
 pub mod Located

@@ -116,8 +116,8 @@ all_at P (x ∷ xs) zero d (first, rest) h = first
 all_at P (x ∷ xs) (suc i) d (first, rest) h = all_at P xs i d rest (omega arith)
 
 -- one block more, by an engine that still means what it meant
-module _ (m : Meaning) (S : Type 0) (v : ℕ) (units : Units) (list : System) (owners : List Owner) (es : List Entry) (tabled : Tabled es m.system units list owners)
-    (ready : AnswersFor m S v) (i : ℕ) (inside : i < length list.blocks) (d : Owner) where
+module _ (m : Meaning) (v : ℕ) (units : Units) (list : System) (owners : List Owner) (es : List Entry) (tabled : Tabled es m.system units list owners)
+    (ready : AnswersFor m v) (i : ℕ) (inside : i < length list.blocks) (d : Owner) where
   abbrev no_entry : Entry
   no_entry = record { name = []; slots = 0 }
 
@@ -139,15 +139,15 @@ module _ (m : Meaning) (S : Type 0) (v : ℕ) (units : Units) (list : System) (o
       ∙ ap (λ ns. get_or ns i []) tabled.owned
       ∙ get_or-map name_in_entry es i no_entry [] here
 
-  pub turn_lines : (k : Meaning) (R : Type 0) → k ≡ m → (S → R) → (out before name : List ℕ) (n first size : ℕ) → size ≡ get_or list.blocks i 0 → name ≡ owned_name units (get_or owners i d)
+  pub turn_lines : (k : Meaning) → k ≡ m → (out before name : List ℕ) (n first size : ℕ) → size ≡ get_or list.blocks i 0 → name ≡ owned_name units (get_or owners i d)
       → let row = least m.system v in
       (first ≡ start (blocks es) i) × (overlaid out n (left_lines row first (drop i es)) ≡ overlaid before 0 (targets es row)) × (n + length (left_lines row first (drop i es)) ≡ length (targets es row))
       → (out' : List ℕ) (n' first' : ℕ)
-      → (BlockAnswers k R v first name → out' ≡ overlaid out n (target_line (least k.system v) size first name))
-      → (BlockAnswers k R v first name → n' ≡ n + length (target_line (least k.system v) size first name))
+      → (BlockAnswers k v first name → out' ≡ overlaid out n (target_line (least k.system v) size first name))
+      → (BlockAnswers k v first name → n' ≡ n + length (target_line (least k.system v) size first name))
       → (first + size ≤ 256 → first' ≡ first + size)
       → (first' ≡ start (blocks es) (i + 1)) × (overlaid out' n' (left_lines row first' (drop (i + 1) es)) ≡ overlaid before 0 (targets es row)) × (n' + length (left_lines row first' (drop (i + 1) es)) ≡ length (targets es row))
-  turn_lines k R same safe out before name n first size size_is name_is (at_first, written, counted) out' n' first' put count add =
+  turn_lines k same out before name n first size size_is name_is (at_first, written, counted) out' n' first' put count add =
       let row = least m.system v in
       let long = blocks_length es in
       let size_here' : size ≡ suc entry_here.slots = size_is ∙ size_here in
@@ -156,9 +156,9 @@ module _ (m : Meaning) (S : Type 0) (v : ℕ) (units : Units) (list : System) (o
       let few : first + size ≤ 256 = omega (arith, at_first, size_here', within, at_block, tabled.few) in
       let first_is : first' ≡ first + size = add few in
       let named : name ≡ entry_here.name = name_is ∙ name_here in
-      let answers : BlockAnswers k R v first name =
+      let answers : BlockAnswers k v first name =
       record {
-        ready = record { safe = safe ready.safe; settled = ap (λ x. x.settled) same ∙ ready.settled; row = subst (λ x. v < var_count x.system) (sym same) ready.row };
+        ready = record { settled = ap (λ x. x.settled) same ∙ ready.settled; row = subst (λ x. v < var_count x.system) (sym same) ready.row };
         object = subst (λ x. 0 < length_of x.system.blocks first) (sym same) (subst (λ bs. 0 < length_of bs first) (sym tabled.held) (subst (λ x. 0 < length_of (blocks es) x) (sym at_first) (object_at es i here)));
         inside = omega (arith, few, size_here');
         short = subst (λ x. length x ≤ 24) (sym named) (all_at Short es i no_entry tabled.short here);

@@ -18,11 +18,10 @@ use Rattle.host_analyser.specs.Objects.{AnswersFor}
 use Rattle.host_analyser.specs.Replies.{points_reply, alias_reply}
 
 -- a settled engine that holds the book's list
-module _ (b : Book) (m : Meaning) (S : Type 0) (safe : S) (holds : m.system ≡ book_list b) (settled : m.settled ≡ true) where
-  pub answers_for : (c : Cell) → Within (table (texts_of b)) c → AnswersFor m S (number (table (texts_of b)) c)
+module _ (b : Book) (m : Meaning) (holds : m.system ≡ book_list b) (settled : m.settled ≡ true) where
+  pub answers_for : (c : Cell) → Within (table (texts_of b)) c → AnswersFor m (number (table (texts_of b)) c)
   answers_for c c_in =
       record {
-        safe = safe;
         settled = settled;
         row = subst (λ sys. number (table (texts_of b)) c < var_count sys) (sym holds) (number_below (table (texts_of b)) c c_in);
       }
@@ -38,7 +37,7 @@ module _ (b : Book) (m : Meaning) (S : Type 0) (safe : S) (holds : m.system ≡ 
   module _ (open_book : b.settled ≡ true) where
     points_known : (o : Option Cell) → ((c : Cell) → o ≡ Some c → Within (table (texts_of b)) c) → (k : Option (List ℕ)) → ((n : List ℕ) → k ≡ Some n → Within (table (texts_of b)) (slot n 0))
         → (v x : ℕ) → Some v ≡ cell_number b.units o → Some x ≡ object_number b.units k → (r : Bool)
-        → (AnswersFor m S v → 0 < length_of m.system.blocks x → r ≡ least m.system v x)
+        → (AnswersFor m v → 0 < length_of m.system.blocks x → r ≡ least m.system v x)
         → ◌≡◌ {A = Result Bool Refusal} (Ok r) (asked NoPlace o (λ c. asked Unknown k (λ n. Ok (has_object (texts_of b) c n))))
     points_known None o_in k k_in v x e f r says = absurd (let z : ◌≡◌ {A = ℕ} 0 1 = cc e in omega arith)
     points_known (Some c) o_in None k_in v x e f r says = absurd (let z : ◌≡◌ {A = ℕ} 0 1 = cc f in omega arith)
@@ -48,18 +47,18 @@ module _ (b : Book) (m : Meaning) (S : Type 0) (safe : S) (holds : m.system ≡ 
         let c_in = o_in c refl in
         let n_in = k_in n refl in
         ap Ok
-        (says (subst (AnswersFor m S) (sym at_v) (answers_for c c_in)) (subst (λ y. 0 < length_of m.system.blocks y) (sym at_x) (is_object n n_in))
+        (says (subst (AnswersFor m) (sym at_v) (answers_for c c_in)) (subst (λ y. 0 < length_of m.system.blocks y) (sym at_x) (is_object n n_in))
         ∙ row_is v x ∙ ap (λ y. least (book_list b) y x) at_v ∙ ap (λ y. least (book_list b) (number (table (texts_of b)) c) y) at_x)
 
     pub points_answered : (p n : List ℕ) (v x : ℕ) → Some v ≡ cell_number b.units (place_among (texts_of b) p) → Some x ≡ object_number b.units (name_in (texts_of b) n)
-        → (r : Bool) → (AnswersFor m S v → 0 < length_of m.system.blocks x → r ≡ least m.system v x) → Ok r ≡ points_reply b p n
+        → (r : Bool) → (AnswersFor m v → 0 < length_of m.system.blocks x → r ≡ least m.system v x) → Ok r ≡ points_reply b p n
     points_answered p n v x e f r says =
         points_known (place_among (texts_of b) p) (known_is_within (texts_of b) p).0 (name_in (texts_of b) n) (known_is_within (texts_of b) n).1 v x e f r says
         ∙ sym (ap (λ s. cond s (points NoPlace Unknown (texts_of b) p n) (Err NotSettled)) open_book)
 
     alias_known : (o k : Option Cell) → ((c : Cell) → o ≡ Some c → Within (table (texts_of b)) c) → ((c : Cell) → k ≡ Some c → Within (table (texts_of b)) c)
         → (v w : ℕ) → Some v ≡ cell_number b.units o → Some w ≡ cell_number b.units k → (r : Bool)
-        → (AnswersFor m S v → AnswersFor m S w → r ≡ any 256 (λ x. least m.system v x && least m.system w x))
+        → (AnswersFor m v → AnswersFor m w → r ≡ any 256 (λ x. least m.system v x && least m.system w x))
         → ◌≡◌ {A = Result Bool Refusal} (Ok r) (asked NoPlace o (λ c. asked Unknown k (λ d. Ok (shares (texts_of b) c d))))
     alias_known None k o_in k_in v w e f r says = absurd (let z : ◌≡◌ {A = ℕ} 0 1 = cc e in omega arith)
     alias_known (Some c) None o_in k_in v w e f r says = absurd (let z : ◌≡◌ {A = ℕ} 0 1 = cc f in omega arith)
@@ -67,13 +66,13 @@ module _ (b : Book) (m : Meaning) (S : Type 0) (safe : S) (holds : m.system ≡ 
         let at_v : v ≡ number (table (texts_of b)) c = cc e in
         let at_w : w ≡ number (table (texts_of b)) d = cc f in
         ap Ok
-        (says (subst (AnswersFor m S) (sym at_v) (answers_for c (o_in c refl))) (subst (AnswersFor m S) (sym at_w) (answers_for d (k_in d refl)))
+        (says (subst (AnswersFor m) (sym at_v) (answers_for c (o_in c refl))) (subst (AnswersFor m) (sym at_w) (answers_for d (k_in d refl)))
         ∙ ap (λ sys. any 256 (λ x. least sys v x && least sys w x)) holds
         ∙ ap (λ y. any 256 (λ x. least (book_list b) y x && least (book_list b) w x)) at_v
         ∙ ap (λ y. any 256 (λ x. least (book_list b) (number (table (texts_of b)) c) x && least (book_list b) y x)) at_w)
 
     pub alias_answered : (p q : List ℕ) (v w : ℕ) → Some v ≡ cell_number b.units (place_among (texts_of b) p) → Some w ≡ cell_number b.units (place_among (texts_of b) q)
-        → (r : Bool) → (AnswersFor m S v → AnswersFor m S w → r ≡ any 256 (λ x. least m.system v x && least m.system w x)) → Ok r ≡ alias_reply b p q
+        → (r : Bool) → (AnswersFor m v → AnswersFor m w → r ≡ any 256 (λ x. least m.system v x && least m.system w x)) → Ok r ≡ alias_reply b p q
     alias_answered p q v w e f r says =
         alias_known (place_among (texts_of b) p) (place_among (texts_of b) q) (known_is_within (texts_of b) p).0 (known_is_within (texts_of b) q).0 v w e f r says
         ∙ sym (ap (λ s. cond s (alias NoPlace Unknown (texts_of b) p q) (Err NotSettled)) open_book)

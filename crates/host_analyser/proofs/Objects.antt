@@ -1,12 +1,14 @@
 -- The next object of a row, and rows that share one.
-use Rattle.std.proofs.Common.{◌≡◌, ℕ, ◌<◌, ◌≤◌, Bool, true, false, cond, ◌&&◌, T, leb, Some, None, Ok, Option, Result, sym, refl, ap, ◌∙◌, subst, ⊎_elim, arith, le→leb, leb→le}
+use Rattle.std.proofs.Common.{◌≡◌, ℕ, ◌<◌, ◌≤◌, Bool, true, false, cond, ◌&&◌, ltb, T, leb, Some, None, Ok, Err, Option, IfSome, sym, refl, ap, ◌∙◌, subst, ⊎_elim, arith, le→leb, leb→le}
+use Rattle.std.specs.Option.{option_flatten}
+use Rattle.std.specs.Result.{result_ok}
 use Rattle.std.proofs.lemmas.Bool.{cases_lt, lt-ltb}
 use Rattle.constraints.specs.Finite.{any, lowest}
 use Rattle.constraints.proofs.Finite.{and_intro, and_left, and_right, any_intro, any_elim, lowest_passes, lowest_first}
 use Rattle.constraints.proofs.Rows.{same_test}
 use Rattle.constraints.specs.Constraint.{var_count}
 use Rattle.constraints.specs.Least.{least}
-use Rattle.engine.specs.declared.fault.EngineFault.{EngineFault}
+use Rattle.engine.specs.declared.fault.EngineFault.TheVariants.{Gathering, Outside}
 use Rattle.engine.specs.Meanings.{Meaning, next_answer}
 use Rattle.rows.specs.Stores.{next_of}
 use Rattle.host_analyser.specs.Objects.{AnswersFor, NextObject, Unshared}
@@ -62,26 +64,28 @@ module _ (r q : ℕ → Bool) where
       (λ _. any_intro 256 (λ k. r k && q k) o next_r.0 (and_intro (r o) (q o) next_r.2 (subst (λ x. T (q x)) (sym same) next_q.2)))
       (λ _. tt)
 
--- what a settled engine answers, and where its meaning stays
-module _ (m : Meaning) (v from : ℕ) where
-  pub next_answered : (r : Option ℕ) → m.settled ≡ true → v < var_count m.system → ◌≡◌ {A = Result (Option ℕ) EngineFault} (Ok r) (next_answer m v from)
-      → NextObject (least m.system v) from r
-  next_answered r settled inside e =
-      next_object (least m.system v) from r (same_ok (rw (settled, lt-ltb v (var_count m.system) inside) at e))
+bounded : (row : ℕ → Bool) (from : ℕ) (r : Option ℕ) → NextObject row from r → IfSome r (λ o. (from ≤ o) × (o < 256))
+bounded row from None next = tt
+bounded row from (Some o) next = (next.1, next.0)
+
+-- what is made of an engine's answer, with none in place of a refusal
+module _ (m : Meaning) (v from : ℕ) (r : Option ℕ) (is : r ≡ option_flatten (result_ok (next_answer m v from))) where
+  pub next_bound : IfSome r (λ o. (from ≤ o) × (o < 256))
+  next_bound = go m.settled (ltb v (var_count m.system)) is
     where
-      same_ok : {x y : Option ℕ} → ◌≡◌ {A = Result (Option ℕ) EngineFault} (Ok x) (Ok y) → x ≡ y
-      same_ok f = cc f
+      go : (settled inside : Bool) → r ≡ option_flatten (result_ok (cond settled (cond inside (Ok (next_of (least m.system v) from)) (Err Outside)) (Err Gathering)))
+          → IfSome r (λ o. (from ≤ o) × (o < 256))
+      go true true e = bounded (least m.system v) from r (next_object (least m.system v) from r e)
+      go true false e = rw e tt
+      go false inside e = rw e tt
 
--- what an engine answers whose meaning and soundness stayed
-module _ (m : Meaning) (S : Type 0) (v from : ℕ) where
-  pub still_next : (k : Meaning) (R : Type 0) (r : Option ℕ) → k ≡ m → (S → R) → AnswersFor m S v
-      → (AnswersFor k R v → NextObject (least k.system v) from r) → NextObject (least m.system v) from r
-  still_next k R r same safe ready next =
+  pub next_answered : AnswersFor m v → NextObject (least m.system v) from r
+  next_answered ready = next_object (least m.system v) from r (rw (ready.settled, lt-ltb v (var_count m.system) ready.row) at is)
+
+-- what an engine answers whose meaning stayed
+module _ (m : Meaning) (v from : ℕ) where
+  pub still_next : (k : Meaning) (r : Option ℕ) → k ≡ m → AnswersFor m v
+      → (AnswersFor k v → NextObject (least k.system v) from r) → NextObject (least m.system v) from r
+  still_next k r same ready next =
       subst (λ x. NextObject (least x.system v) from r) same
-      (next (record { safe = safe ready.safe; settled = ap (λ x. x.settled) same ∙ ready.settled; row = subst (λ x. v < var_count x.system) (sym same) ready.row }))
-
--- after 256 turns no object is left
-pub share_none_left : (r q : ℕ → Bool) (from : ℕ) → 256 ≤ from → Unshared r q from → false ≡ any 256 (λ k. r k && q k)
-share_none_left r q from far so_far =
-    same_test false (any 256 (λ k. r k && q k)) (λ t. absurd t)
-    (λ t. let (k, lt, both) = any_elim 256 (λ j. r j && q j) t in so_far k (omega arith) (and_left (r k) (q k) both) (and_right (r k) (q k) both))
+      (next (record { settled = ap (λ x. x.settled) same ∙ ready.settled; row = subst (λ x. v < var_count x.system) (sym same) ready.row }))

@@ -1,16 +1,16 @@
--- A refused load or unload, and a question, leave the analyser as it stood.
+-- A refused load or unload leaves the analyser as it stood.
 use Rattle.std.proofs.Common.{◌≡◌, ℕ, Bool, List, map, set, Some, None, Err, Option, Result, sym, ap, ◌∙◌, subst, arith}
 use Rattle.engine.specs.Meanings.{Meaning}
 use Rattle.books.specs.Books.{standing, list_of, table, Book as Lawful}
+use Rattle.standing.specs.declared.list.UnitList.{UnitList}
 use Rattle.standing.specs.declared.refusal.UnitRefusal.{UnitRefusal}
 use Rattle.standing.specs.declared.standing_units.StandingUnits.{StandingUnits}
 use Rattle.standing.specs.Loads.{load_refusal, unload_refusal, load_units, unload_units, unless}
 use Rattle.standing.specs.Lists.{owners_in}
 use Rattle.standing.specs.Refusals.{done_or}
 use Rattle.standing.specs.States.{units_of, LaidOut, owned_name, name_in_entry}
-use Rattle.host_analyser.specs.declared.analyser.Analyser.{Analyser}
 use Rattle.host_analyser.specs.Books.{Book, unsettled, load_book, unload_book}
-use Rattle.host_analyser.specs.States.{SettledRight}
+use Rattle.host_analyser.specs.InStep.{SettledRight}
 
 pub refused_reply : (o : Option UnitRefusal) (f : UnitRefusal) → ◌≡◌ {A = Result (Unit {0}) UnitRefusal} (Err f) (done_or o) → o ≡ Some f
 refused_reply None f e = absurd (let z : ◌≡◌ {A = ℕ} 0 1 = cc e in omega arith)
@@ -37,31 +37,14 @@ unload_stays old new s u f e same =
     ap (λ us. record { units = us; settled = s }) same ∙ sym (ap (λ o. unless o (unsettled (set (units_of old) u None)) b) e)
 
 -- the same units, laid out as before
-pub still_right : {E : Type 0} (meaning : E → Meaning) (sound : E → Type 0) (a : Analyser E) (new : StandingUnits) → units_of new ≡ units_of a.units
-    → (LaidOut a.units → LaidOut new) → SettledRight meaning sound a
-    → SettledRight meaning sound (record { units = new; list = a.list; engine = a.engine; settled = a.settled })
-still_right meaning sound a new same laid right =
+pub still_right : (m : Meaning) (old new : StandingUnits) (list : UnitList) → units_of new ≡ units_of old → (LaidOut old → LaidOut new)
+    → SettledRight m old list → SettledRight m new list
+still_right m old new list same laid right =
     record {
-      safe = right.safe;
       holds = right.holds ∙ ap (λ us. list_of (standing us)) (sym same);
       settled = right.settled;
       lawful = subst (λ us. Lawful (standing us)) (sym same) right.lawful;
       laid = laid right.laid;
       listed = right.listed ∙ ap (λ us. list_of (standing us)) (sym same);
-      owned = subst (λ us. map (owned_name us) (owners_in a.list) ≡ map name_in_entry (table (standing us))) (sym same) right.owned;
-    }
-
--- a question leaves what the engine means
-pub asked_right : {E : Type 0} (meaning : E → Meaning) (sound : E → Type 0) (a : Analyser E) (e : E) → meaning e ≡ meaning a.engine
-    → (sound a.engine → sound e) → SettledRight meaning sound a
-    → SettledRight meaning sound (record { units = a.units; list = a.list; engine = e; settled = a.settled })
-asked_right meaning sound a e same safe right =
-    record {
-      safe = safe right.safe;
-      holds = ap (λ m. m.system) same ∙ right.holds;
-      settled = ap (λ m. m.settled) same ∙ right.settled;
-      lawful = right.lawful;
-      laid = right.laid;
-      listed = right.listed;
-      owned = right.owned;
+      owned = subst (λ us. map (owned_name us) (owners_in list) ≡ map name_in_entry (table (standing us))) (sym same) right.owned;
     }

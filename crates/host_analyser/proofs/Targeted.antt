@@ -1,5 +1,5 @@
 -- The target list of a pointer, as it is counted and written.
-use Rattle.std.proofs.Common.{◌≡◌, ℕ, ◌+◌, ◌<◌, ◌≤◌, true, cond, not, ltb, List, [], ◌∷◌, ◌++◌, map, length, get_or, drop, set, is_some, Some, None, Ok, Err, Option, Result, sym, refl, ap, ◌∙◌, subst, append_assoc, arith}
+use Rattle.std.proofs.Common.{◌≡◌, ℕ, ◌+◌, ◌<◌, ◌≤◌, Bool, true, cond, not, ltb, List, [], ◌∷◌, ◌++◌, map, length, get_or, drop, set, is_some, Some, None, Ok, Err, Option, Result, sym, refl, ap, ◌∙◌, subst, append_assoc, arith}
 use Rattle.std.specs.List.{AllByRecursion}
 use Rattle.std.proofs.lemmas.Bool.{lt-ltb, le-ltb}
 use Rattle.std.proofs.lemmas.List.{length_push}
@@ -13,16 +13,17 @@ use Rattle.books.specs.Books.{Units, standing, table, row, Book as Lawful}
 use Rattle.books.specs.Tables.{Within, number}
 use Rattle.books.specs.Targets.{targets}
 use Rattle.books.proofs.Counts.{stood_there}
-use Rattle.books.proofs.Options.{some_same}
 use Rattle.books.proofs.Lists.{all_distinct, all_short}
 use Rattle.books.proofs.Pointers.{pointers_within}
 use Rattle.standing.specs.declared.refusal.UnitRefusal.{UnitRefusal}
 use Rattle.standing.specs.declared.refusal.UnitRefusal.TheVariants.{NoSuchUnit, NothingStands, NoSuchCall}
 use Rattle.standing.specs.declared.list.Owner.{Owner}
+use Rattle.standing.specs.declared.list.UnitList.{UnitList}
+use Rattle.standing.specs.declared.standing_units.StandingUnits.{StandingUnits}
 use Rattle.standing.specs.Calls.{call_refusal, call_pointer, pointer_in}
 use Rattle.standing.specs.Loads.{stands}
 use Rattle.standing.specs.Refusals.{refused_if, earliest}
-use Rattle.standing.specs.States.{cell_number, pointer_or, pointer_reply, owned_name, name_in_entry}
+use Rattle.standing.specs.States.{units_of, cell_number, pointer_or, pointer_reply, owned_name, name_in_entry}
 use Rattle.host_analyser.specs.declared.refusal.Refusal.{Refusal}
 use Rattle.host_analyser.specs.declared.refusal.Refusal.TheVariants.{Unit as OfUnit, NotSettled, BufferTooShort}
 use Rattle.host_analyser.specs.Books.{Book, texts_of, book_list}
@@ -30,8 +31,7 @@ use Rattle.host_analyser.specs.Listing.{Short, Tabled}
 use Rattle.host_analyser.specs.Objects.{AnswersFor}
 use Rattle.host_analyser.specs.Replies.{target_bytes, listing_of, targets_reply, targets_buffer, after_reply, pointer_or_refused}
 use Rattle.standing.specs.Lists.{list_in, owners_in}
-use Rattle.host_analyser.specs.declared.analyser.Analyser.{Analyser}
-use Rattle.host_analyser.specs.States.{book_of, SettledRight}
+use Rattle.host_analyser.specs.InStep.{SettledRight}
 use Rattle.host_analyser.proofs.Located.{answers_for}
 
 shorter : (es : List Entry) → AllByRecursion Rattle.books.specs.Counts.Short es → AllByRecursion Short es
@@ -147,54 +147,71 @@ module _ (b : Book) (open_book : b.settled ≡ true) (u i : ℕ) (buffer : List 
   buffer_kept f e = sym (ap (λ r. after_reply r (target_bytes b u i) buffer) e)
 
 -- what a settled analyser knows of a pointer
-pub record Pointed {E : Type 0} (meaning : E → Meaning) (sound : E → Type 0) (a : Analyser E) (u i v : ℕ) : Type 0 where
+pub record Pointed (m : Meaning) (units : StandingUnits) (list : UnitList) (u i v : ℕ) : Type 0 where
   pub cell : Cell
-  pub none : call_refusal (book_of a).units u i ≡ None
-  pub is : call_pointer (book_of a).units u i ≡ Some cell
-  pub answers : AnswersFor (meaning a.engine) (sound a.engine) v
-  pub listed : Tabled (table (texts_of (book_of a))) (meaning a.engine).system (book_of a).units (list_in a.list) (owners_in a.list)
-  pub row_is : least (meaning a.engine).system v ≡ row (texts_of (book_of a)) cell
+  pub none : call_refusal (units_of units) u i ≡ None
+  pub is : call_pointer (units_of units) u i ≡ Some cell
+  pub answers : AnswersFor m v
+  pub listed : Tabled (table (standing (units_of units))) m.system (units_of units) (list_in list) (owners_in list)
+  pub row_is : least m.system v ≡ row (standing (units_of units)) cell
 
-pub pointer_ready : {E : Type 0} (meaning : E → Meaning) (sound : E → Type 0) (a : Analyser E) → SettledRight meaning sound a → Lawful (texts_of (book_of a)) → (u i v : ℕ)
-    → Ok v ≡ pointer_reply (book_of a).units u i → Pointed meaning sound a u i v
-pointer_ready meaning sound a right lawful u i v e =
-    let b = book_of a in
-    let (none, cell, is, at_v) = found_pointer b.units u i v e in
-    record {
-      cell = cell;
-      none = none;
-      is = is;
-      answers = subst (AnswersFor (meaning a.engine) (sound a.engine)) (sym at_v)
-          (answers_for b (meaning a.engine) (sound a.engine) right.safe right.holds right.settled cell (pointer_within b.units lawful u i cell is));
-      listed = tabled b lawful (meaning a.engine) right.holds (list_in a.list) right.listed (owners_in a.list) right.owned;
-      row_is = ap (λ sys. least sys v) right.holds ∙ ap (λ x. least (book_list b) x) at_v;
-    }
+module _ (m : Meaning) (units : StandingUnits) (list : UnitList) (right : SettledRight m units list) (s : Bool) (open_book : s ≡ true) (u i v : ℕ)
+    (found : Ok v ≡ pointer_reply (units_of units) u i) where
+  abbrev book_here : Book
+  book_here = record { units = units_of units; settled = s }
 
--- the reply and the buffer of an answered call
-abbrev pub Written : Book → ℕ → ℕ → List ℕ → ℕ → List ℕ → Type 0
-Written b u i buffer n out = (◌≡◌ {A = Result ℕ Refusal} (Ok n) (targets_reply b u i buffer)) × (out ≡ targets_buffer b u i buffer)
+  abbrev table_here : List Entry
+  table_here = table (standing (units_of units))
 
--- the list is counted, found short enough, and then written, by an engine that means the same both times
-pub write_targets : {E : Type 0} (meaning : E → Meaning) (sound : E → Type 0) (a : Analyser E) (e : E)
-    → SettledRight meaning sound a → SettledRight meaning sound (record { units = a.units; list = a.list; engine = e; settled = a.settled })
-    → a.settled ≡ true → Lawful (texts_of (book_of a)) → (u i v : ℕ) → Ok v ≡ pointer_reply (book_of a).units u i → (buffer : List ℕ)
-    → (length_first : ℕ)
-    → (Tabled (table (texts_of (book_of a))) (meaning a.engine).system (book_of a).units (list_in a.list) (owners_in a.list) → AnswersFor (meaning a.engine) (sound a.engine) v
-    → length_first ≡ length (targets (table (texts_of (book_of a))) (least (meaning a.engine).system v)))
-    → length_first ≤ length buffer → (n : ℕ) (out : List ℕ)
-    → (Tabled (table (texts_of (book_of a))) (meaning e).system (book_of a).units (list_in a.list) (owners_in a.list) → AnswersFor (meaning e) (sound e) v
-    → n ≡ length (targets (table (texts_of (book_of a))) (least (meaning e).system v)))
-    → (Tabled (table (texts_of (book_of a))) (meaning e).system (book_of a).units (list_in a.list) (owners_in a.list) → AnswersFor (meaning e) (sound e) v
-    → out ≡ overlaid buffer 0 (targets (table (texts_of (book_of a))) (least (meaning e).system v)))
-    → Written (book_of a) u i buffer n out
-write_targets meaning sound a e right later_right open_book lawful u i v found buffer length_first counts short n out count writes =
-    let b = book_of a in
-    let es = table (texts_of b) in
-    let ready = pointer_ready meaning sound a right lawful u i v found in
-    let later = pointer_ready meaning sound (record { units = a.units; list = a.list; engine = e; settled = a.settled }) later_right lawful u i v found in
-    let same : ready.cell ≡ later.cell = some_same (sym ready.is ∙ later.is) in
-    let counted = counts ready.listed ready.answers ∙ ap (λ r. length (targets es r)) ready.row_is ∙ ap (λ x. length (targets es (row (texts_of b) x))) same in
-    let fits : length (targets es (row (texts_of b) later.cell)) ≤ length buffer = omega (arith, counted, short) in (
-      ap Ok (count later.listed later.answers ∙ ap (λ r. length (targets es r)) later.row_is) ∙ sym (all_targets b open_book u i buffer later.cell later.none later.is fits),
-      writes later.listed later.answers ∙ ap (λ r. overlaid buffer 0 (targets es r)) later.row_is ∙ buffer_after b open_book u i buffer later.cell later.none later.is fits,
-    )
+  pub pointer_ready : Pointed m units list u i v
+  pointer_ready =
+      let (none, cell, is, at_v) = found_pointer (units_of units) u i v found in
+      record {
+        cell = cell;
+        none = none;
+        is = is;
+        answers = subst (AnswersFor m) (sym at_v) (answers_for book_here m right.holds right.settled cell (pointer_within (units_of units) right.lawful u i cell is));
+        listed = tabled book_here right.lawful m right.holds (list_in list) right.listed (owners_in list) right.owned;
+        row_is = ap (λ sys. least sys v) right.holds ∙ ap (λ x. least (book_list book_here) x) at_v;
+      }
+
+  -- the bytes of the list, as the engine counts them
+  abbrev bytes_there : List ℕ
+  bytes_there = targets table_here (row (standing (units_of units)) pointer_ready.cell)
+
+  pub counted : (n : ℕ)
+      → (Tabled table_here m.system (units_of units) (list_in list) (owners_in list) → AnswersFor m v → n ≡ length (targets table_here (least m.system v)))
+      → n ≡ length bytes_there
+  counted n counts = counts pointer_ready.listed pointer_ready.answers ∙ ap (λ r. length (targets table_here r)) pointer_ready.row_is
+
+  module _ (buffer : List ℕ) (n : ℕ)
+      (counts : Tabled table_here m.system (units_of units) (list_in list) (owners_in list) → AnswersFor m v → n ≡ length (targets table_here (least m.system v))) where
+    -- the list is counted, and found too long
+    pub too_long : length buffer < n → (◌≡◌ {A = Result ℕ Refusal} (Err BufferTooShort) (targets_reply book_here u i buffer)) × (buffer ≡ targets_buffer book_here u i buffer)
+    too_long h =
+        let long : length buffer < length bytes_there = omega (arith, counted n counts, h) in
+        let refused = long_targets book_here open_book u i buffer pointer_ready.cell pointer_ready.none pointer_ready.is long in
+        (sym refused, buffer_kept book_here open_book u i buffer BufferTooShort refused)
+
+    -- the list is counted, found short enough, and then written, by an engine that means the same both times
+    pub written : n ≤ length buffer → (k : Meaning) → k ≡ m → (n' : ℕ) (out : List ℕ)
+        → (Tabled table_here k.system (units_of units) (list_in list) (owners_in list) → AnswersFor k v → n' ≡ length (targets table_here (least k.system v)))
+        → (Tabled table_here k.system (units_of units) (list_in list) (owners_in list) → AnswersFor k v → out ≡ overlaid buffer 0 (targets table_here (least k.system v)))
+        → (◌≡◌ {A = Result ℕ Refusal} (Ok n') (targets_reply book_here u i buffer)) × (out ≡ targets_buffer book_here u i buffer)
+    written h k same n' out count writes =
+        let fits : length bytes_there ≤ length buffer = omega (arith, counted n counts, h) in
+        let count' = subst (λ x. Tabled table_here x.system (units_of units) (list_in list) (owners_in list) → AnswersFor x v → n' ≡ length (targets table_here (least x.system v))) same count in
+        let writes' = subst (λ x. Tabled table_here x.system (units_of units) (list_in list) (owners_in list) → AnswersFor x v → out ≡ overlaid buffer 0 (targets table_here (least x.system v))) same writes in (
+          ap Ok (counted n' count') ∙ sym (all_targets book_here open_book u i buffer pointer_ready.cell pointer_ready.none pointer_ready.is fits),
+          writes' pointer_ready.listed pointer_ready.answers ∙ ap (λ r. overlaid buffer 0 (targets table_here r)) pointer_ready.row_is
+              ∙ buffer_after book_here open_book u i buffer pointer_ready.cell pointer_ready.none pointer_ready.is fits,
+        )
+
+-- a pointer that is refused
+pub refused_call : (units : StandingUnits) (s : Bool) → s ≡ true → (u i : ℕ) (buffer : List ℕ) (f : UnitRefusal) → Err f ≡ pointer_reply (units_of units) u i
+    → let b : Book = record { units = units_of units; settled = s } in
+    (◌≡◌ {A = Result ℕ Refusal} (Err (OfUnit f)) (targets_reply b u i buffer)) × (buffer ≡ targets_buffer b u i buffer)
+refused_call units s open_book u i buffer f e =
+    let b : Book = record { units = units_of units; settled = s } in
+    let refused = refused_targets b open_book u i buffer f (refused_pointer (units_of units) u i f e) in
+    (sym refused, buffer_kept b open_book u i buffer (OfUnit f) refused)

@@ -27,8 +27,8 @@ abbrev pub target_line : (ℕ → Bool) → ℕ → ℕ → List ℕ → List �
 target_line row size first name = cond (nat_lt 1 size && row first) (line name) []
 
 -- an engine that answers for v, at the first variable of a block whose name is short
-pub record BlockAnswers (m : Meaning) (sound : Type 0) (v first : ℕ) (name : List ℕ) : Type 0 where
-  pub ready : AnswersFor m sound v
+pub record BlockAnswers (m : Meaning) (v first : ℕ) (name : List ℕ) : Type 0 where
+  pub ready : AnswersFor m v
   pub object : 0 < length_of m.system.blocks first
   pub inside : first < 256
   pub short : length name ≤ 24

@@ -3,9 +3,8 @@ use Rattle.std.specs.Prelude.{◌≡◌, ℕ, ◌<◌, ◌≤◌, Bool, true, T,
 use Rattle.constraints.specs.Constraint.{var_count}
 use Rattle.engine.specs.Meanings.{Meaning}
 
--- a sound and settled engine answers for a variable of its list
-pub record AnswersFor (m : Meaning) (sound : Type 0) (v : ℕ) : Type 0 where
-  pub safe : sound
+-- a settled engine answers for a variable of its list
+pub record AnswersFor (m : Meaning) (v : ℕ) : Type 0 where
   pub settled : m.settled ≡ true
   pub row : v < var_count m.system
 

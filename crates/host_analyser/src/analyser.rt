@@ -1,9 +1,6 @@
 // The analyser's state, and the calls that change it.
-ghost use Rattle.std.specs.Prelude.{◌≡◌};
-ghost use Rattle.host_analyser.specs.Books.{new_book, load_book, unload_book, settle_book};
-ghost use Rattle.host_analyser.specs.Replies.{result_of, SettleResult, points_reply, alias_reply, targets_reply, targets_buffer};
-ghost use Rattle.host_analyser.specs.States.{book_of, InStep};
-ghost use Rattle.standing.specs.Loads.{load_refusal, unload_refusal};
+ghost use Rattle.std.specs.Prelude.{◌≡◌, true};
+ghost use Rattle.host_analyser.specs.InStep.{SettledRight};
 
 use crate::asking::{has_object, share_object};
 use crate::listing::list_targets;
@@ -21,14 +18,19 @@ pub struct Analyser<E: Engine> {
     list: UnitList,
     engine: E,
     settled: bool,
+    ghost in_step: { settled ≡ true → ∥ SettledRight (E.meaning engine) units list ∥₁ },
 }
 
 impl<E: Engine> Analyser<E> {
+    ghost use Rattle.standing.specs.Loads.{load_refusal, unload_refusal};
+    ghost use Rattle.host_analyser.specs.Books.{new_book, load_book, unload_book, settle_book};
+    ghost use Rattle.host_analyser.specs.Replies.{result_of, SettleResult, points_reply, alias_reply, targets_reply, targets_buffer};
+    ghost use Rattle.host_analyser.specs.States.{book_of};
+
     // Over an engine in any state.
     pub fn new(engine: E) -> Self
         ensures made { book_of result ≡ new_book }
         ensures rule { (E.meaning result.engine).rule ≡ (E.meaning engine).rule }
-        ensures keeps { InStep E.meaning E.sound result }
     {
         Analyser {
             units: StandingUnits::new(),
@@ -43,7 +45,6 @@ impl<E: Engine> Analyser<E> {
         ensures replies { result ≡ result_of (load_refusal (book_of self.old).units unit text.now) }
         ensures after { book_of self.new ≡ load_book (book_of self.old) unit text.now }
         ensures rule { (E.meaning self.new.engine).rule ≡ (E.meaning self.old.engine).rule }
-        ensures keeps { InStep E.meaning E.sound self.old → InStep E.meaning E.sound self.new }
     {
         self.units.load(unit, text)?;
         self.settled = false; // the rows are those of fewer texts
@@ -55,7 +56,6 @@ impl<E: Engine> Analyser<E> {
         ensures replies { result ≡ result_of (unload_refusal (book_of self.old).units unit) }
         ensures after { book_of self.new ≡ unload_book (book_of self.old) unit }
         ensures rule { (E.meaning self.new.engine).rule ≡ (E.meaning self.old.engine).rule }
-        ensures keeps { InStep E.meaning E.sound self.old → InStep E.meaning E.sound self.new }
     {
         self.units.unload(unit)?;
         self.settled = false; // the rows are those of more texts
@@ -67,7 +67,6 @@ impl<E: Engine> Analyser<E> {
         ensures replies { SettleResult (E.meaning self.old.engine).rule (book_of self.old) result }
         ensures after { book_of self.new ≡ settle_book (E.meaning self.old.engine).rule (book_of self.old) }
         ensures rule { (E.meaning self.new.engine).rule ≡ (E.meaning self.old.engine).rule }
-        ensures keeps { InStep E.meaning E.sound self.old → InStep E.meaning E.sound self.new }
     {
         if self.settled {
             return Err(Refusal::SettledAlready);
@@ -80,57 +79,45 @@ impl<E: Engine> Analyser<E> {
 
     // Whether a place's row has a name's object.
     pub fn points(&mut self, place: &[u8], name: &[u8]) -> Result<bool, Refusal>
-        ensures replies { InStep E.meaning E.sound self.old → result ≡ points_reply (book_of self.old) place.now name.now }
+        ensures replies { result ≡ points_reply (book_of self.old) place.now name.now }
         ensures book { book_of self.new ≡ book_of self.old }
         ensures rule { (E.meaning self.new.engine).rule ≡ (E.meaning self.old.engine).rule }
-        ensures keeps { InStep E.meaning E.sound self.old → InStep E.meaning E.sound self.new }
     {
         if !self.settled {
             return Err(Refusal::NotSettled);
         }
-        let Some(v) = self.units.place(place) else {
-            return Err(Refusal::NoPlace);
-        };
-        let Some(o) = self.units.object(name) else {
-            return Err(Refusal::Unknown);
-        };
+        let v = self.units.place(place).ok_or(Refusal::NoPlace)?;
+        let o = self.units.object(name).ok_or(Refusal::Unknown)?;
         Ok(has_object(&mut self.engine, v, o))
     }
 
     // Whether the rows of two places share an object.
     pub fn alias(&mut self, first: &[u8], second: &[u8]) -> Result<bool, Refusal>
-        ensures replies { InStep E.meaning E.sound self.old → result ≡ alias_reply (book_of self.old) first.now second.now }
+        ensures replies { result ≡ alias_reply (book_of self.old) first.now second.now }
         ensures book { book_of self.new ≡ book_of self.old }
         ensures rule { (E.meaning self.new.engine).rule ≡ (E.meaning self.old.engine).rule }
-        ensures keeps { InStep E.meaning E.sound self.old → InStep E.meaning E.sound self.new }
     {
         if !self.settled {
             return Err(Refusal::NotSettled);
         }
-        let Some(v) = self.units.place(first) else {
-            return Err(Refusal::NoPlace);
-        };
-        let Some(w) = self.units.place(second) else {
-            return Err(Refusal::Unknown);
-        };
+        let v = self.units.place(first).ok_or(Refusal::NoPlace)?;
+        let w = self.units.place(second).ok_or(Refusal::Unknown)?;
         Ok(share_object(&mut self.engine, v, w))
     }
 
     // Writes the functions in the row of the pointer of the unit's indirect call `index`, from 0, by rising object, each
     // name followed by byte 10; answers how many bytes that is. The rest of the buffer stays.
     pub fn targets(&mut self, unit: u32, index: u32, buffer: &mut [u8]) -> Result<usize, Refusal>
-        ensures replies { InStep E.meaning E.sound self.old → result ≡ targets_reply (book_of self.old) unit index buffer.old }
-        ensures writes { InStep E.meaning E.sound self.old → buffer.new ≡ targets_buffer (book_of self.old) unit index buffer.old }
+        ensures replies { result ≡ targets_reply (book_of self.old) unit index buffer.old }
+        ensures writes { buffer.new ≡ targets_buffer (book_of self.old) unit index buffer.old }
         ensures book { book_of self.new ≡ book_of self.old }
         ensures rule { (E.meaning self.new.engine).rule ≡ (E.meaning self.old.engine).rule }
-        ensures keeps { InStep E.meaning E.sound self.old → InStep E.meaning E.sound self.new }
     {
         if !self.settled {
             return Err(Refusal::NotSettled);
         }
         let v = self.units.pointer(unit, index)?;
-        let mut none = [0u8; 1];
-        let length = list_targets(&mut self.engine, &self.units, &self.list, v, &mut none);
+        let length = list_targets(&mut self.engine, &self.units, &self.list, v, &mut []);
         if length > buffer.len() {
             return Err(Refusal::BufferTooShort);
         }

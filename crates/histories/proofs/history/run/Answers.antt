@@ -1,7 +1,4 @@
-use Rattle.std.proofs.Common.{vec_items, ap, ◌∙◌, subst}
-use Rattle.std.proofs.lemmas.List.{take_all}
-use Rattle.histories.specs.Books.{book_from}
-use Rattle.histories.specs.Histories.{History}
+use Rattle.std.proofs.Common.{vec_items, ◌∙◌}
 use Rattle.host_analyser.specs.States.{book_of}
 use Rattle.histories.proofs.Runs.{turn_book, turn_reply}
 use Rattle.histories.proofs.history.run.Goals as goal
@@ -20,17 +17,4 @@ loop-c-preserved g c =
           c.in_ok-push.ensures.items inv.0 c.in_ok-make.ensures.says,
       turn_book rule start calls i c.loop-c-test.true here inv.2 b inv.1 (book_of c.make.new.analyser) c.make.ensures.after,
       c.make.ensures.rule ∙ inv.2,
-      c.make.ensures.keeps,
     )
-
-pub returns : goal.returns
-returns g c =
-    let rule = (g.E.Engine.meaning c.args.analyser.now.engine).rule in
-    let start = book_of c.args.analyser.now in
-    let whole = take_all c.loop-c.c-index c.args.calls.now c.loop-c-test.false in
-    record {
-      says = subst (λ cs. History rule start cs (vec_items c.loop-c.replies)) whole c.loop-c.invariant.0;
-      after = c.loop-c.invariant.1 ∙ ap (book_from rule start) whole;
-      rule = c.loop-c.invariant.2;
-      keeps = c.loop-c.invariant.3;
-    }

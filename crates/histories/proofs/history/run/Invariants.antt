@@ -1,7 +1,7 @@
 use Rattle.std.proofs.Common.{◌≡◌, take, vec_items}
 use Rattle.histories.specs.Books.{book_from}
 use Rattle.histories.specs.Histories.{History}
-use Rattle.host_analyser.specs.States.{book_of, InStep}
+use Rattle.host_analyser.specs.States.{book_of}
 use Rattle.histories.proofs.history.run.Given as goal
 
 -- the calls so far are a history, and the analyser stands where their book says
@@ -13,4 +13,3 @@ invariant-loop-c g l =
     (History rule (book_of l.initial.analyser) calls (vec_items l.replies))
     × (book_of l.analyser ≡ book_from rule (book_of l.initial.analyser) calls)
     × ((meaning l.analyser.engine).rule ≡ rule)
-    × (InStep meaning g.E.Engine.sound l.analyser)

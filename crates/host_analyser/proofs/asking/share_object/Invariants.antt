@@ -1,14 +1,14 @@
-use Rattle.std.proofs.Common.{◌≡◌, ◌≤◌}
+use Rattle.std.proofs.Common.{◌≡◌, ◌-◌}
 use Rattle.constraints.specs.Least.{least}
 use Rattle.host_analyser.specs.Objects.{AnswersFor, Unshared}
 use Rattle.host_analyser.proofs.asking.share_object.Given as goal
 
 -- nothing below `from` is shared, and the engine still means what it meant
-abbrev pub invariant-loop-turn : goal.invariant-loop-turn
-invariant-loop-turn g l =
+abbrev pub invariant-loop-o : goal.invariant-loop-o
+invariant-loop-o g l =
     let m = g.E.Engine.meaning l.initial.engine in
-    let sound = g.E.Engine.sound in
     (g.E.Engine.meaning l.engine ≡ m)
-    × (sound l.initial.engine → sound l.engine)
-    × (AnswersFor m (sound l.initial.engine) l.v → AnswersFor m (sound l.initial.engine) l.w
-    → (l.turn ≤ l.from) × Unshared (least m.system l.v) (least m.system l.w) l.from)
+    × (AnswersFor m l.v → AnswersFor m l.w → Unshared (least m.system l.v) (least m.system l.w) l.from)
+
+abbrev pub decreases-loop-o : goal.decreases-loop-o
+decreases-loop-o g l = 256 - l.from

@@ -13,15 +13,14 @@ use Rattle.host_analyser.proofs.Lines.{left_lines}
 use Rattle.host_analyser.proofs.listing.list_targets.Given as goal
 
 -- the lines of the entries before i are written, and those of the others are left
-abbrev pub invariant-loop-i : goal.invariant-loop-i
-invariant-loop-i g l =
+abbrev pub invariant-loop-size : goal.invariant-loop-size
+invariant-loop-size g l =
     let m = g.E.Engine.meaning l.initial.engine in
-    let S = g.E.Engine.sound l.initial.engine in
     let row = least m.system l.v in
-    (l.n ≤ 25 * l.i)
+    let i = length l.yielded in
+    (l.n ≤ 25 * i)
     × (g.E.Engine.meaning l.engine ≡ m)
-    × (S → g.E.Engine.sound l.engine)
-    × ((es : List Entry) → Tabled es m.system (units_of l.units) (list_in l.list) (owners_in l.list) → AnswersFor m S l.v
-    → (l.first ≡ start (blocks es) l.i)
-    × (overlaid l.out l.n (left_lines row l.first (drop l.i es)) ≡ overlaid l.initial.out 0 (targets es row))
-    × (l.n + length (left_lines row l.first (drop l.i es)) ≡ length (targets es row)))
+    × ((es : List Entry) → Tabled es m.system (units_of l.units) (list_in l.list) (owners_in l.list) → AnswersFor m l.v
+    → (l.first ≡ start (blocks es) i)
+    × (overlaid l.out l.n (left_lines row l.first (drop i es)) ≡ overlaid l.initial.out 0 (targets es row))
+    × (l.n + length (left_lines row l.first (drop i es)) ≡ length (targets es row)))
