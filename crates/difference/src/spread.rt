@@ -42,7 +42,7 @@ fn load_base<G: Grower>(
     }
 }
 
-// Where v is at offset k of an object in row q: o into row p.
+// Where the pair is (v, o), with v at offset k of an object in row q: o into row p.
 fn load_value<G: Grower>(
     list: &ConstraintList,
     g: &mut G,
