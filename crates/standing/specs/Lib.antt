@@ -1,3 +1,4 @@
+pub mod Cursors
 pub mod Refusals
 pub mod Loads
 pub mod Calls

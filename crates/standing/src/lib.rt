@@ -1,6 +1,7 @@
 // The standing units of a host: their texts, and the table of their names.
 #![tactic(auto)]
 
+mod cursor;
 mod firsts;
 pub mod list;
 mod lister;

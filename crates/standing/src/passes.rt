@@ -7,7 +7,8 @@ ghost use Rattle.books.specs.Books.{is_defined};
 ghost use Rattle.books.specs.Loads.{first_at};
 ghost use Rattle.standing.specs.Passes.{clashes_note, clashes_known, known_in, enter_all, fit_all, forget_all};
 
-use declarations::cursor::{Declaration, next_declaration};
+use crate::cursor::Declarations;
+use declarations::cursor::Declaration;
 use grammar::item::Linkage;
 use lexemes::lexeme::bytes_of;
 use names::{NameTable, Note, TableFull};
@@ -33,13 +34,11 @@ pub(crate) fn first_clash(names: &NameTable, text: &[u8]) -> Option<usize>
     requires { Fine tt ≡ outcome (read text.now) }
     ensures { result ≡ first_at (clashes_known (notes names.now)) (declarations_in text.now) }
 {
-    let mut at = 0;
-    while let Some(found) = next_declaration(text, at) {
+    for found in Declarations::new(text) {
         let known = names.find(bytes_of(text, found.name));
         if is_clash(known, found) {
             return Some(found.name.from);
         }
-        at = found.end;
     }
     None
 }
@@ -50,11 +49,9 @@ pub(crate) fn enter_names(names: &mut NameTable, text: &[u8]) -> Result<(), Tabl
     ensures fits { is_ok result ≡ fit_all (known_in names.old) (declarations_in text.now) }
     ensures after { is_ok result ≡ true → known_in names.new ≡ enter_all (known_in names.old) (declarations_in text.now) }
 {
-    let mut at = 0;
-    while let Some(found) = next_declaration(text, at) {
+    for found in Declarations::new(text) {
         let name = bytes_of(text, found.name);
         names.mention(name, found.slots as u8, is_definition(found.linkage))?;
-        at = found.end;
     }
     Ok(())
 }
@@ -64,9 +61,7 @@ pub(crate) fn forget_names(names: &mut NameTable, text: &[u8])
     requires { Fine tt ≡ outcome (read text.now) }
     ensures { notes names.new ≡ forget_all (notes names.old) (declarations_in text.now) }
 {
-    let mut at = 0;
-    while let Some(found) = next_declaration(text, at) {
+    for found in Declarations::new(text) {
         names.forget(bytes_of(text, found.name), is_definition(found.linkage));
-        at = found.end;
     }
 }

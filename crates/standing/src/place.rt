@@ -7,8 +7,8 @@ ghost use Rattle.books.specs.Books.{Units, standing, table};
 ghost use Rattle.standing.specs.Knowledge.{text_of, texts_in, Knows};
 ghost use Rattle.standing.specs.Layout.{Laid, SameNotes, Fits, Layable, lay_entry, lay_all, StandingTexts};
 
+use crate::cursor::Declarations;
 use crate::list::{Owner, UnitList};
-use declarations::cursor::next_declaration;
 use grammar::unit_text::UnitText;
 use lexemes::lexeme::bytes_of;
 use names::NameTable;
@@ -32,14 +32,12 @@ fn place_names(names: &mut NameTable, text: &[u8], unit: usize, list: &mut UnitL
     ensures same { SameNotes (notes names.old) (notes names.new) }
     ensures laid { (units : Units) (es : List Entry) → slice_index_or units unit None ≡ Some text.now → Fine tt ≡ outcome (read text.now) → Layable es (declarations_in text.now) (notes names.old) → Laid units es (notes names.old) list.old → Laid units (lay_all es (declarations_in text.now)) (notes names.new) list.new }
 {
-    let mut at = 0;
-    while let Some(found) = next_declaration(text, at) {
+    for found in Declarations::new(text) {
         let owner = Owner {
             unit,
             span: found.name,
         };
         place_name(names, bytes_of(text, found.name), owner, list);
-        at = found.end;
     }
 }
 
