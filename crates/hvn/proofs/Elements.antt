@@ -11,7 +11,7 @@ use Rattle.constraints.proofs.Value.{same_value_refl, same_value_trans}
 use Rattle.constraints.proofs.Coded.{Bits}
 use Rattle.flows.specs.Columns.{ReachBits}
 use Rattle.flows.proofs.Putting.{at_object, at_loaded}
-use Rattle.hvn.specs.Columns.{kind_number, element_number, brought}
+use Rattle.hvn.specs.Columns.{element_number, brought}
 use Rattle.hvn.proofs.Positions.{Coded, Told, void, sourced, grouped, Stage, group_set, nothing_set}
 use Rattle.hvn.proofs.Earlier.{member_is, earlier}
 
@@ -102,7 +102,7 @@ module _ (sys : System) (valid : Valid sys) (reach number order : List ℕ) (b :
       subst (λ y. Says Code (value sys (copy_reach sys) y) (get_or number y 0)) is (says_variable j lt (stage.told j lt))
 
   says_kind : (m p o q : ℕ) → p < var_count sys → q < var_count sys → o < 8 → Has sys (of_kind m p o q)
-      → Says Code (element (value sys (copy_reach sys)) (component (copy_reach sys) v) (of_kind m p o q)) (kind_number reach number v m p o q)
+      → Says Code (element (value sys (copy_reach sys)) (component (copy_reach sys) v) (of_kind m p o q)) (element_number reach number v (of_kind m p o q))
   says_kind zero p o q hp hq ho has =
       let small : q < 256 = omega (arith, valid.few) in
       says_cond Code _ _ (source (object q)) (1 + q) (member_is sys valid reach bits v p (arranged.inside k hk) hp)
@@ -118,7 +118,7 @@ module _ (sys : System) (valid : Valid sys) (reach number order : List ℕ) (b :
   says_kind (suc (suc (suc m))) p o q hp hq ho has = inl (refl, refl)
 
   says_element : (i : ℕ) → i < length sys.words
-      → Says Code (element (value sys (copy_reach sys)) (component (copy_reach sys) v) (constraint sys i)) (element_number reach number v (get_or sys.words i 0))
+      → Says Code (element (value sys (copy_reach sys)) (component (copy_reach sys) v) (constraint sys i)) (element_number reach number v (constraint sys i))
   unfolding decode
   says_element i lt =
       let w = get_or sys.words i 0 in

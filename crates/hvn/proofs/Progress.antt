@@ -1,12 +1,16 @@
 -- The numbers along the order, one position more.
-use Rattle.std.proofs.Common.{◌≡◌, ℕ, zero, suc, ◌+◌, ◌*◌, ◌<◌, ◌≤◌, Bool, true, false, cond, ◌&&◌, ◌||◌, T, eqb, ◌≢◌, List, length, get_or, set as write, Decides, sym, ap, ◌∙◌, subst, ap₂, subst₂, inl, inr, arith}
-use Rattle.std.proofs.lemmas.List.{get_or-set_same, get_or-set_other}
+use Rattle.std.proofs.Common.{◌≡◌, ℕ, ◌+◌, ◌*◌, ◌<◌, ◌≤◌, Bool, true, false, cond, ◌&&◌, ◌||◌, T, eqb, ◌≢◌, List, replicate, length, get_or, set as write, Decides, refl, sym, ap, ◌∙◌, subst, ap₂, subst₂, inl, inr, arith}
+use Rattle.std.proofs.lemmas.List.{get_or-replicate, get_or_past, length-replicate, get_or-set_same, get_or-set_other}
 use Rattle.std.proofs.lemmas.Bool.{cases_lt, cases_eq, cases_Bool, eqb-true, both_ways}
 use Rattle.graphs.specs.Order.{Arranged}
 use Rattle.graphs.specs.Matrix.{bit_at, Blank}
 use Rattle.graphs.proofs.Words.{blank_bit}
 use Rattle.constraints.specs.Finite.{any, lowest}
-use Rattle.constraints.specs.Constraint.{System, var_count, Valid, kind, left, offset, right}
+use Rattle.constraints.specs.declared.constraint.Constraint.{Constraint}
+use Rattle.constraints.specs.declared.constraint.Constraint.TheVariants.{Address as address, Copy as copy, Load as load, Store as store}
+use Rattle.constraints.specs.Constraint.{System, var_count, Valid, decode}
+use Rattle.flows.specs.Names.{NamesBelow}
+use Rattle.flows.proofs.Names.{names_small}
 use Rattle.constraints.specs.Merge.{is_open, row, copy_reach, copy_edge}
 use Rattle.constraints.specs.Value.{Value, Values, source, collect, elements, open_member, component_value, component, value, value_class}
 use Rattle.constraints.proofs.Finite.{T_true, any_intro, any_elim, lowest_passes, lowest_first}
@@ -16,7 +20,7 @@ use Rattle.layers.specs.Classes.{Numbers}
 use Rattle.flows.proofs.Scans.{T-from}
 use Rattle.flows.specs.Columns.{ReachBits}
 use Rattle.flows.proofs.Putting.{at_row}
-use Rattle.hvn.specs.Columns.{in_row, Settled, empty, lone, crowd, member, kind_number, element_number, brought, open_in, FirstOf, NoneOf, SmallNumbers, RowDone, by_open, by_row}
+use Rattle.hvn.specs.Columns.{in_row, Settled, empty, lone, crowd, member, element_number, brought, open_in, FirstOf, NoneOf, SmallNumbers, RowDone, by_open, by_row}
 use Rattle.hvn.proofs.Positions.{Coded, Done, opened, plain, Stage, stage_all}
 use Rattle.hvn.proofs.Rowing.{row_in, row_out, in_parts, same_row}
 use Rattle.hvn.proofs.Earlier.{member_is}
@@ -67,23 +71,20 @@ cond_small true x y hx hy = hx
 cond_small false x y hx hy = hy
 
 module _ (reach number : List ℕ) (v : ℕ) (small : SmallNumbers number) where
-  kind_small : (m p o q : ℕ) → q < 256 → o < 8 → kind_number reach number v m p o q < 2817
-  kind_small zero p o q hq ho = cond_small (member reach v p) (1 + q) 0 (omega arith) (omega arith)
-  kind_small (suc zero) p o q hq ho =
+  pub element_small : (c : Constraint) → NamesBelow 256 c → element_number reach number v c < 2817
+  element_small (address p o) h = cond_small (member reach v p) (1 + o) 0 (omega (arith, h)) (omega arith)
+  element_small (copy p q) h =
       cond_small (member reach v p) _ 0 (cond_small (member reach v q) 0 (get_or number q 0) (omega arith) (small q)) (omega arith)
-  kind_small (suc (suc zero)) p o q hq ho = cond_small (member reach v p) (513 + 8 * q + o) 0 (omega arith) (omega arith)
-  kind_small (suc (suc (suc m))) p o q hq ho = omega arith
+  element_small (load p q k) h = cond_small (member reach v p) (513 + 8 * q + k) 0 (omega (arith, h)) (omega arith)
+  element_small (store p k q) h = omega arith
 
-  element_small : (w : ℕ) → right w < 256 → element_number reach number v w < 2817
-  element_small w h = kind_small (kind w) (left w) (offset w) (right w) h (omega arith)
-
-  brought_small : (words : List ℕ) (i c : ℕ) → ((j : ℕ) → j < i → right (get_or words j 0) < 256) → 2816 ≤ c → brought words reach number v i c ≡ false
+  brought_small : (words : List ℕ) (i c : ℕ) → ((j : ℕ) → j < i → NamesBelow 256 (decode (get_or words j 0))) → 2816 ≤ c → brought words reach number v i c ≡ false
   brought_small words i c inside ge =
       elim (cases_Bool (brought words reach number v i c)) [
         | inl on ↦
-            let (j, lt, t) = any_elim i (λ j. eqb (element_number reach number v (get_or words j 0)) (c + 1)) (T-from _ on) in
-            let e : element_number reach number v (get_or words j 0) ≡ c + 1 = eqb-true _ _ (T_true t) in
-            absurd (omega (arith, e, element_small (get_or words j 0) (inside j lt)))
+            let (j, lt, t) = any_elim i (λ j. eqb (element_number reach number v (decode (get_or words j 0))) (c + 1)) (T-from _ on) in
+            let e : element_number reach number v (decode (get_or words j 0)) ≡ c + 1 = eqb-true _ _ (T_true t) in
+            absurd (omega (arith, e, element_small (decode (get_or words j 0)) (inside j lt)))
         | inr off ↦ off
       ]
 
@@ -114,6 +115,12 @@ pub record Progress (sys : System) (order rows number : List ℕ) (k : ℕ) : Ty
   pub small : SmallNumbers number
   pub blank : (y c : ℕ) → k ≤ y → y < 256 → c < 2816 → bit_at 88 rows y c ≡ false
   pub done : (j : ℕ) → j < k → Done (val_at sys order) (num_at number order) (els_at sys order) (in_row rows) j
+
+pub numbers_zero : (number : List ℕ) (n v : ℕ) → number ≡ replicate n 0 → get_or number v 0 ≡ 0
+numbers_zero number n v filled =
+    let zeros : List ℕ = replicate n 0 in
+    ap (λ l. get_or l v 0) filled ∙
+    elim (cases_lt v n) [ inl lt ↦ get_or-replicate n v 0 0 lt | inr ge ↦ get_or_past zeros v 0 (omega (arith, length-replicate {A = ℕ} n 0)) ]
 
 pub progress_none : (sys : System) (order rows number : List ℕ) → ((v : ℕ) → get_or number v 0 ≡ 0) → Blank 22528 rows → Progress sys order rows number 0
 progress_none sys order rows number zeros clean = record {
@@ -186,7 +193,7 @@ module _ (sys : System) (valid : Valid sys) (flags : List Bool) (open_is : (v : 
       let same : (c : ℕ) → brought sys.words reach number v words c ≡ in_row rows' k c = λ c.
       elim (cases_lt c 2816) [
         | inl h ↦ sym (row_in rows' k c h ∙ bits c h ∙ ap (λ o. o || brought sys.words reach number v words c) (dark c h))
-        | inr ge ↦ brought_small reach number v progress.small sys.words words c (λ j lt. omega (arith, (valid.formed j lt).right_in, few)) ge
+        | inr ge ↦ brought_small reach number v progress.small sys.words words c (λ j lt. names_small sys valid sys.words refl j lt _ refl) ge
             ∙ sym (row_out rows' k c ge)
       ] in
       let old = bits_elements sys valid reach number order (in_row rows) reaches arranged k hk stage words (omega arith) in

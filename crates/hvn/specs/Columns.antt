@@ -1,8 +1,11 @@
 -- Values as numbers: 0 for nothing, 1 + c for column c. The columns are 2,560 sources, then 256 positions of sets.
-use Rattle.std.specs.Prelude.{◌≡◌, ℕ, zero, suc, ◌+◌, ◌*◌, ◌<◌, ◌≤◌, Bool, true, false, cond, ◌&&◌, ◌||◌, ◌≢◌, List, length, nat_eq, nat_lt, slice_index, slice_index_or}
+use Rattle.std.specs.Prelude.{◌≡◌, ℕ, ◌+◌, ◌*◌, ◌<◌, ◌≤◌, Bool, true, false, cond, ◌&&◌, ◌||◌, ◌≢◌, List, Option, Some, None, length, nat_eq, nat_lt, slice_index, slice_index_or}
 use Rattle.graphs.specs.Matrix.{bit, bit_at}
 use Rattle.constraints.specs.Finite.{any}
-use Rattle.constraints.specs.Constraint.{kind, left, offset, right}
+use Rattle.constraints.specs.declared.constraint.Constraint.{Constraint}
+use Rattle.constraints.specs.declared.constraint.Constraint.TheVariants.{Address as address, Copy as copy, Load as load, Store as store}
+use Rattle.constraints.specs.Constraint.{decode}
+use Rattle.flows.specs.Names.{NamesBelow}
 
 -- bit c of row k
 abbrev pub in_row : List ℕ → ℕ → ℕ → Bool
@@ -26,19 +29,21 @@ member reach v u = bit reach u v && bit reach v u
 abbrev pub copied : List ℕ → List ℕ → ℕ → ℕ → ℕ
 copied reach number v q = cond (member reach v q) 0 (slice_index number q)
 
--- the number of what a word brings to the component of v
-abbrev pub kind_number : List ℕ → List ℕ → ℕ → ℕ → ℕ → ℕ → ℕ → ℕ
-kind_number reach number v zero p k q = cond (member reach v p) (1 + q) 0
-kind_number reach number v (suc zero) p k q = cond (member reach v p) (copied reach number v q) 0
-kind_number reach number v (suc (suc zero)) p k q = cond (member reach v p) (513 + 8 * q + k) 0
-kind_number reach number v (suc (suc (suc n))) p k q = 0
+-- the number of a column, 0 for none
+abbrev pub column_number : Option ℕ → ℕ
+column_number None = 0
+column_number (Some c) = c + 1
 
-abbrev pub element_number : List ℕ → List ℕ → ℕ → ℕ → ℕ
-element_number reach number v w = kind_number reach number v (kind w) (left w) (offset w) (right w)
+-- the number of what a constraint brings to the component of v
+abbrev pub element_number : List ℕ → List ℕ → ℕ → Constraint → ℕ
+element_number reach number v (address p o) = cond (member reach v p) (1 + o) 0
+element_number reach number v (copy p q) = cond (member reach v p) (copied reach number v q) 0
+element_number reach number v (load p q k) = cond (member reach v p) (513 + 8 * q + k) 0
+element_number reach number v (store p k q) = 0
 
 -- some word brings column c to the component of v
 abbrev pub brought : List ℕ → List ℕ → List ℕ → ℕ → ℕ → ℕ → Bool
-brought words reach number v i c = any i (λ j. nat_eq (element_number reach number v (slice_index words j)) (c + 1))
+brought words reach number v i c = any i (λ j. nat_eq (element_number reach number v (decode (slice_index words j))) (c + 1))
 
 -- u is an open member of the component of v
 abbrev pub open_in : List Bool → List ℕ → ℕ → ℕ → Bool
@@ -53,9 +58,20 @@ pub record FirstOf (n : ℕ) (test : ℕ → Bool) (f : ℕ) : Type 0 where
 abbrev pub NoneOf : ℕ → (ℕ → Bool) → Type 0
 NoneOf n test = (j : ℕ) → j < n → test j ≢ true
 
+-- no column of row k from low up to high is set
+abbrev pub NoneFrom : List ℕ → ℕ → ℕ → ℕ → Type 0
+NoneFrom rows k low high = (c : ℕ) → low ≤ c → c < high → bit_at 88 rows k c ≢ true
+
+-- c is the lowest column of row k from low on
+pub record NextColumn (rows : List ℕ) (k low c : ℕ) : Type 0 where
+  pub from : low ≤ c
+  pub inside : c < 2816
+  pub set : bit_at 88 rows k c ≡ true
+  pub none : NoneFrom rows k low c
+
 -- the words name variables below 256
 abbrev pub SmallWords : List ℕ → Type 0
-SmallWords words = (i : ℕ) → i < length words → (left (slice_index words i) < 256) × (right (slice_index words i) < 256)
+SmallWords words = (i : ℕ) → i < length words → NamesBelow 256 (decode (slice_index words i))
 
 -- numbers are 0 or of a column
 abbrev pub SmallNumbers : List ℕ → Type 0

@@ -8,5 +8,6 @@ use Rattle.hvn.specs.declared.flow.Flow.{Flow}
 
 pub record FoundFlow (sys : System) (flow : Flow) : Type 0 where
   pub opened : (v : ℕ) → slice_index_or flow.flags v false ≡ is_open sys v
-  pub reaches : ReachBits sys flow.reach
+  pub reaches : ReachBits sys flow.reach.words
   pub arranged : Arranged (copy_edge sys) flow.order (var_count sys)
+  pub counted : flow.count ≡ var_count sys

@@ -1,3 +1,2 @@
-pub mod Shapes
 pub mod Columns
 pub mod Flows

@@ -4,7 +4,6 @@
 mod classes;
 mod element;
 mod flow;
-mod row;
-mod shape;
+mod sets;
 
 pub use classes::Hvn;

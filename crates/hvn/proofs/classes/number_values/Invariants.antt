@@ -1,6 +1,0 @@
-use Rattle.constraints.specs.Lists.{system_of}
-use Rattle.hvn.proofs.Progress.{Progress}
-use Rattle.hvn.proofs.classes.number_values.Given as goal
-
-abbrev pub invariant-loop-k : goal.invariant-loop-k
-invariant-loop-k l = Progress (system_of l.list) l.flow.order l.rows l.number l.k
