@@ -1,5 +1,5 @@
 -- The items of a text are its statements, one after another. Assumes nothing.
-use Rattle.std.proofs.Common.{◌≡◌, ℕ, ◌<◌, ◌≤◌, List, [], ◌∷◌, length, Some, None, Ok, Err, Result, sym, refl, ap, ◌∙◌, subst, arith}
+use Rattle.std.proofs.Common.{◌≡◌, ℕ, ◌<◌, ◌≤◌, List, [], ◌∷◌, length, Some, None, Ok, Err, Option, Result, sym, refl, ap, ◌∙◌, subst, arith}
 use Rattle.std.proofs.lemmas.Iterator.{YieldsList}
 use Rattle.std.proofs.lemmas.Iterator.Splits.{YieldsList-from_shown_while}
 use Rattle.grammar.specs.declared.state.Found.{Found}
@@ -30,6 +30,9 @@ module _ (text : List ℕ) (s t : Items) where
 
   items_ended : (ss : List Statement) → text_of s ≡ text → GivesItem s None t → statements_from text (offset_of s) ≡ Ok ss → ss ≡ []
   items_ended ss e given read = (subst (λ (bs : List ℕ). ItemAt bs (offset_of s) None) e given.1) ss read
+
+  pub item_at : (r : Option Found) → text_of s ≡ text → GivesItem s r t → ItemAt text (offset_of s) r
+  item_at r e given = subst (λ (bs : List ℕ). ItemAt bs (offset_of s) r) e given.1
 
   -- the iterator goes on, and stays within the text
   pub item_onward : (f : Found) → text_of s ≡ text → GivesItem s (Some f) t → (text_of t ≡ text) × (offset_of s < offset_of t) × (offset_of t ≤ length text)
