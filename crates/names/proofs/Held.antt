@@ -1,6 +1,7 @@
 -- For callers: a table's notes as a map, and its variables whatever the order of its records.
 use Rattle.std.proofs.Common.{◌≡◌, ℕ, suc, ◌+◌, ◌<◌, Bool, true, false, cond, ◌⊎◌, List, [], ◌∷◌, length, Some, Decides, Option, sym, refl, ap, ◌∙◌, inl, inr, ⊎_elim, arith}
 use Rattle.std.specs.Str.{bytes_eq}
+use Rattle.std.proofs.lemmas.Bool.{false_from_ne_true}
 use Rattle.std.proofs.lemmas.Slice.Eq.{bytes_eq-Decides}
 use Rattle.std.proofs.lemmas.List.{length-map}
 use Rattle.names.specs.declared.record.Note.{Note}
@@ -10,7 +11,7 @@ use Rattle.numbering.specs.Keys.{Fresh}
 use Rattle.names.specs.Notes.{name_in, note_of, total, weight, width, listed, Once, Lists, sum_over, with_note}
 use Rattle.names.specs.Index.{key_at, same_key}
 use Rattle.names.specs.Held.{held, notes, variables_of}
-use Rattle.names.proofs.Records.{names_of, same_self, not_true, none_parts, fresh_rest, unnoted}
+use Rattle.names.proofs.Records.{names_of, same_self, none_parts, fresh_rest, unnoted}
 use Rattle.names.proofs.Sounds.{is_sound}
 
 -- ---- the map at the changed name, and elsewhere
@@ -19,7 +20,7 @@ pub with_note_same : (f : List ℕ → Option Note) (n : List ℕ) (x : Option N
 with_note_same f n x = ap (λ b. cond b x (f n)) (same_self n)
 
 pub with_note_other : (f : List ℕ → Option Note) (n m : List ℕ) (x : Option Note) → (n ≡ m → ⊥) → with_note f n x m ≡ f m
-with_note_other f n m x apart = ap (λ b. cond b x (f m)) (not_true (bytes_eq n m) (λ e. apart ((bytes_eq-Decides n m).0 e)))
+with_note_other f n m x apart = ap (λ b. cond b x (f m)) (false_from_ne_true (bytes_eq n m) (λ e. apart ((bytes_eq-Decides n m).0 e)))
 
 -- ---- the sum over names in any order
 
@@ -66,7 +67,7 @@ total_over w (r ∷ rs) fresh ns lists =
     ((bytes_eq-Decides _ _).1 (sym ((bytes_eq-Decides (key_at (names_of rs) j) m).0 e)))) in
     let sums = sum_listed m (λ n. weight w (note_of rs n)) (λ n. weight w (note_of (r ∷ rs) n)) (w r.note)
     (ap (λ b. weight w (cond b (Some r.note) (note_of rs m))) (same_self m))
-    (λ n ne. ap (λ b. weight w (cond b (Some r.note) (note_of rs n))) (not_true (bytes_eq m n) (λ e. ne (sym ((bytes_eq-Decides m n).0 e)))))
+    (λ n ne. ap (λ b. weight w (cond b (Some r.note) (note_of rs n))) (false_from_ne_true (bytes_eq m n) (λ e. ne (sym ((bytes_eq-Decides m n).0 e)))))
     (ap (weight w) unknown) ns lists.once (known_listed r rs ns lists (listed ns m) refl) in
     omega (arith, rest, sums)
 

@@ -2,6 +2,7 @@
 use Rattle.std.proofs.Common.{◌≡◌, ℕ, zero, suc, ◌+◌, ◌<◌, ◌≤◌, Bool, true, false, cond, List, [], ◌∷◌, ◌++◌, map, length, get_or, take, set, Some, None, Option, sym, refl, ap, ◌∙◌, subst, arith}
 use mathlib.Core.Path.{fun_ext}
 use Rattle.std.specs.Str.{bytes_eq}
+use Rattle.std.proofs.lemmas.Bool.{false_from_ne_true}
 use Rattle.std.proofs.lemmas.Slice.Eq.{bytes_eq-Decides}
 use Rattle.numbering.specs.Keys.{Fresh}
 use Rattle.names.specs.declared.record.Note.{Note}
@@ -16,10 +17,6 @@ names_of rs = map name_in rs
 
 pub same_self : (n : List ℕ) → bytes_eq n n ≡ true
 same_self n = (bytes_eq-Decides n n).1 refl
-
-pub not_true : (b : Bool) → (b ≡ true → ⊥) → b ≡ false
-not_true true never = absurd (never refl)
-not_true false never = refl
 
 -- two tests that do not both hold may be asked in either order
 swapped : {A : Type 0} (a b : Bool) (x y z : A) → (a ≡ true → b ≡ true → ⊥) → cond a x (cond b y z) ≡ cond b y (cond a x z)
@@ -50,14 +47,14 @@ pub note_at : (rs : List NameRecord) (p : ℕ) (d : NameRecord) → p < length r
 note_at [] p d h fresh = absurd (omega arith)
 note_at (r ∷ rs) zero d h fresh = rw (same_self (name_in r))
 note_at (r ∷ rs) (suc p) d h fresh =
-    rw (not_true (bytes_eq (name_in r) (key_at (names_of rs) p)) (fresh 0 (omega arith)))
+    rw (false_from_ne_true (bytes_eq (name_in r) (key_at (names_of rs) p)) (fresh 0 (omega arith)))
     (note_at rs p d (omega arith) (fresh_rest (name_in r) (names_of rs) p fresh))
 
 pub unnoted : (rs : List NameRecord) (n : List ℕ) → ((j : ℕ) → j < length rs → bytes_eq (key_at (names_of rs) j) n ≡ true → ⊥)
     → note_of rs n ≡ None
 unnoted [] n never = refl
 unnoted (r ∷ rs) n never =
-    rw (not_true (bytes_eq (name_in r) n) (never 0 (omega arith))) (unnoted rs n (λ j h. never (suc j) (omega arith)))
+    rw (false_from_ne_true (bytes_eq (name_in r) n) (never 0 (omega arith))) (unnoted rs n (λ j h. never (suc j) (omega arith)))
 
 -- a name that is not among those before it is not known before it
 pub new_at : (rs : List NameRecord) (i : ℕ) → i < length rs → Fresh (same_key (names_of rs)) i
@@ -65,7 +62,7 @@ pub new_at : (rs : List NameRecord) (i : ℕ) → i < length rs → Fresh (same_
 new_at [] i h fresh = absurd (omega arith)
 new_at (r ∷ rs) zero h fresh = refl
 new_at (r ∷ rs) (suc i) h fresh =
-    rw (not_true (bytes_eq (name_in r) (key_at (names_of rs) i)) (fresh 0 (omega arith)))
+    rw (false_from_ne_true (bytes_eq (name_in r) (key_at (names_of rs) i)) (fresh 0 (omega arith)))
     (new_at rs i (omega arith) (fresh_rest (name_in r) (names_of rs) i fresh))
 
 pub none_parts : (b : Bool) (k : Note) (o : Option Note) → cond b (Some k) o ≡ None → (b ≡ true → ⊥) × (o ≡ None)

@@ -1,4 +1,4 @@
--- The declarations of a text, one after another. Assumes nothing.
+-- The declarations of a text, one after another.
 use Rattle.std.specs.Prelude.{◌≡◌, ℕ, ◌-◌, List, length, Option, MatchOption}
 use Rattle.declarations.specs.declared.cursor.Declaration.{Declaration}
 use Rattle.declarations.specs.Meanings.{NextDeclaration, Onward}

@@ -21,6 +21,7 @@ pub enum UnitRefusal {
     NoSuchCall,
 }
 
+// Stays: clauses name the refusal that a `?` makes, so its `From` is written by hand, here and below.
 impl From<UnitFault> for UnitRefusal {
     ghost from_gives = { λ f r. r ≡ Text f };
 
@@ -39,15 +40,14 @@ impl From<TableFull> for UnitRefusal {
 
 impl UnitRefusal {
     // The number by which hosts know this refusal.
+    // Stays: the numbers are the hosts'.
     pub fn number(&self) -> u32
         ensures { result ≡ number_of self.now }
     {
         match *self {
             UnitRefusal::NoSuchUnit => 9,
             UnitRefusal::UnitStands => 10,
-            UnitRefusal::Text(UnitFault::TooLong) => 11,
-            UnitRefusal::Text(UnitFault::Grammar(_)) => 12,
-            UnitRefusal::Text(UnitFault::Declaration(_)) => 13,
+            UnitRefusal::Text(fault) => u32::from(fault.number()),
             UnitRefusal::Clash(_) => 14,
             UnitRefusal::TooManyVariables => 15,
             UnitRefusal::TooManyWords => 16,
