@@ -13,6 +13,8 @@ use constraints::{Constraint, ConstraintList};
 use rows::StoreFault;
 use walks::{Grower, for_each_object, load_from, slot, store_into};
 
+// Stays: the numbers of a load and of a store stand one by one, since a struct of them would say a variant of `Constraint` again.
+
 // Whether row v holds o.
 fn holds<G: Grower>(g: &G, v: u16, o: u16) -> Result<bool, StoreFault>
     requires variable { v < 256 }

@@ -39,6 +39,8 @@ pub trait Grower {
     ghost onward: { (sys : System) (s t u : Self) → notes sys s t → notes sys t u → notes sys s u };
 }
 
+// Stays: variables and objects are `u16` with a bound, as `Constraint` and the stores have them; as `u8` each call of those would convert.
+
 // Visits the objects of row v in their order, those among them that a visit adds further on.
 pub fn for_each_object<G: Grower, F: Fn(&mut G, u16) -> Result<(), StoreFault>>(
     g: &mut G,
