@@ -9,7 +9,7 @@ use Rattle.chains.specs.declared.Cell.{Cell}
 use Rattle.constraints.specs.Finite.{count}
 use Rattle.constraints.specs.Rows.{empty, total}
 use Rattle.rows.specs.Stores.{in_range, Within, Found}
-use Rattle.chains.specs.Cells.{object_of, reach, above, head_of, in_row, chain_pairs, chain_room, Passed, Rising, RisingRows, Apart, Placed, Sound, Sound-prop}
+use Rattle.chains.specs.Cells.{object_of, reach, above, head_of, in_row, chain_pairs, chain_room, Passed, RisingRows, Apart, Placed, Sound, Sound-prop}
 use Rattle.rows.proofs.Counts.{count_same, total_empty, inside_parts}
 use std.HLevel.{Π_prop}
 use denote.Struct.Props.{props}
@@ -32,11 +32,6 @@ is_sound {cs} {hs} {used} s =
     ∥∥₁_elim s
     (Sound-prop (hlevel props) (hlevel props) (rising_prop cs hs used) (apart_prop cs hs) (hlevel props))
     (λ t. t)
-
-pub in_cells : (cs : List Cell) (hs : List (Option ℕ)) (used v : ℕ) → Sound cs hs used → v < 256 → Rising cs (length cs) (head_of hs v)
-in_cells cs hs used v sound hv o le =
-    let p = sound.rising v hv o le in
-    (p.0, λ j e. let q = p.1 j e in omega (arith, sound.few))
 
 pub chain_within : (cs : List Cell) (hs : List (Option ℕ)) (used : ℕ) → Sound cs hs used → Within (chain_room cs) (chain_pairs cs hs)
 chain_within cs hs used sound = record {

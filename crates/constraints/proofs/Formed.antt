@@ -121,9 +121,6 @@ formed_word bs w f =
       ruled = ruled_if bs (kind w) (offset w) (right w) f.no_offset f.object_right;
     })
 
-pub word_right : (bs : List ℕ) (w : ℕ) → Parts bs w → true ≡ is_word bs w
-word_right bs w p = sym (from_parts bs w p)
-
 -- what one part refuses
 pub not_word : (bs : List ℕ) (w : ℕ) → (Parts bs w → ⊥) → false ≡ is_word bs w
 not_word bs w no_parts = sym (false_from_ne_true (is_word bs w) (λ e. no_parts (parts_of bs w e)))

@@ -9,7 +9,7 @@ use arrayvec::ArrayVec;
 pub use calls::ListFault;
 
 // At most 256 variables and 512 words; all memory is its own.
-#[derive(Drop)]
+#[derive(Debug, Drop)]
 pub struct ConstraintList {
     // the lengths of the blocks, in order
     lengths: ArrayVec<u8, 256>,
