@@ -26,7 +26,7 @@ fn measure<E: Engine + Drop>(
     times: bool,
 ) -> io::Result<Outcome> {
     let start = Instant::now(rt)?;
-    let outcome = run_list(&mut engine, &case.blocks, &case.words);
+    let outcome = run_list(&mut engine, case);
     let micros = start.elapsed(rt)?.as_micros();
     if times {
         println!(rt; "  {name}: {outcome} ({micros} us)")?;

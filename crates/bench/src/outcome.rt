@@ -1,4 +1,5 @@
 // What an engine makes of a list.
+use crate::case::Case;
 use engine::{Engine, EngineFault, Overflow};
 use std::fmt;
 
@@ -44,6 +45,7 @@ impl fmt::Display for Outcome {
 fn add_row<E: Engine>(engine: &mut E, v: u16, digest: u32) -> Result<u32, EngineFault> {
     let mut sum = digest;
     let mut at: u16 = 0;
+    // Stays: a row has at most 256 objects, so a count ends the walk with no proof of what `next` answers.
     for _ in 0..256 {
         let Some(o) = engine.next(v, at)? else {
             break;
@@ -57,13 +59,13 @@ fn add_row<E: Engine>(engine: &mut E, v: u16, digest: u32) -> Result<u32, Engine
     Ok(sum)
 }
 
-fn solve<E: Engine>(engine: &mut E, blocks: &[u8], words: &[u32]) -> Result<Outcome, EngineFault> {
+fn solve<E: Engine>(engine: &mut E, case: &Case) -> Result<Outcome, EngineFault> {
     engine.clear();
     let mut variables: u16 = 0;
-    for n in blocks {
+    for n in &case.blocks {
         variables = engine.block(*n)?.saturating_add(u16::from(*n));
     }
-    for w in words {
+    for w in &case.words {
         engine.add(*w)?;
     }
     engine.settle()?;
@@ -76,6 +78,6 @@ fn solve<E: Engine>(engine: &mut E, blocks: &[u8], words: &[u32]) -> Result<Outc
     Ok(Outcome::Settled { pairs, digest })
 }
 
-pub fn run_list<E: Engine>(engine: &mut E, blocks: &[u8], words: &[u32]) -> Outcome {
-    solve(engine, blocks, words).unwrap_or_else(Outcome::from)
+pub fn run_list<E: Engine>(engine: &mut E, case: &Case) -> Outcome {
+    solve(engine, case).unwrap_or_else(Outcome::from)
 }

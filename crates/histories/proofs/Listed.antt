@@ -1,5 +1,5 @@
 -- A target list by the smallest solution is one about every solution.
-use Rattle.std.proofs.Common.{◌≡◌, ℕ, Bool, true, false, cond, ltb, List, ◌++◌, length, drop, Some, None, Ok, Err, MatchBool, Option, Result, refl, arith}
+use Rattle.std.proofs.Common.{◌≡◌, ℕ, Bool, true, false, cond, ltb, List, ◌++◌, length, drop, Some, None, Ok, Err, MatchBool, Option, Result, refl}
 use Rattle.std.specs.List.{flat_map}
 use Rattle.units.specs.Words.{Cell}
 use Rattle.books.specs.Books.{table, row, Book as Lawful}

@@ -5,7 +5,8 @@ use Rattle.constraints.specs.Finite.{any}
 use Rattle.constraints.specs.Least.{least}
 use Rattle.units.specs.Words.{Cell}
 use Rattle.engine.specs.Meanings.{Meaning}
-use Rattle.books.specs.Books.{table}
+use Rattle.std.specs.Option.{ok_or}
+use Rattle.books.specs.Books.{Units, table}
 use Rattle.books.specs.Tables.{Within, number, slot}
 use Rattle.books.specs.Replies.{place_among, name_in, points, alias, asked, has_object, shares}
 use Rattle.books.proofs.Replies.{known_is_within}
@@ -16,6 +17,55 @@ use Rattle.host_analyser.specs.declared.refusal.Refusal.TheVariants.{NotSettled,
 use Rattle.host_analyser.specs.Books.{Book, texts_of, book_list}
 use Rattle.host_analyser.specs.Objects.{AnswersFor}
 use Rattle.host_analyser.specs.Replies.{points_reply, alias_reply}
+
+-- where `ok_or` gives an error, there was nothing, and it is the one that was passed
+pub refused_by : {X : Type 0} (o : Option X) (e f : Refusal) → ok_or o e ≡ Err f → (o ≡ None) × (f ≡ e)
+refused_by None e f h = (refl, cc h)
+refused_by (Some x) e f h = cc h
+
+no_cell : (units : Units) (o : Option Cell) → None ≡ cell_number units o → o ≡ None
+no_cell units None e = refl
+no_cell units (Some c) e = cc e
+
+no_object : (units : Units) (o : Option (List ℕ)) → None ≡ object_number units o → o ≡ None
+no_object units None e = refl
+no_object units (Some n) e = cc e
+
+some_cell : (units : Units) (o : Option Cell) (v : ℕ) → Some v ≡ cell_number units o → (c : Cell) × (o ≡ Some c)
+some_cell units None v e = cc e
+some_cell units (Some c) v e = (c, refl)
+
+-- without a place, or with one and without a name or a second place
+module _ (b : Book) (open_book : b.settled ≡ true) (p q : List ℕ) where
+  points_opened : (o : Option Cell) (k : Option (List ℕ)) → place_among (texts_of b) p ≡ o → name_in (texts_of b) q ≡ k
+      → asked NoPlace o (λ c. asked Unknown k (λ n. Ok (has_object (texts_of b) c n))) ≡ points_reply b p q
+  points_opened o k e f =
+      ap (λ x. asked NoPlace x (λ c. asked Unknown k (λ n. Ok (has_object (texts_of b) c n)))) (sym e)
+      ∙ ap (λ x. asked NoPlace (place_among (texts_of b) p) (λ c. asked Unknown x (λ n. Ok (has_object (texts_of b) c n)))) (sym f)
+      ∙ sym (ap (λ s. cond s (points NoPlace Unknown (texts_of b) p q) (Err NotSettled)) open_book)
+
+  pub points_placeless : None ≡ cell_number b.units (place_among (texts_of b) p) → Err NoPlace ≡ points_reply b p q
+  points_placeless e = points_opened None _ (no_cell b.units _ e) refl
+
+  pub points_nameless : (v : ℕ) → Some v ≡ cell_number b.units (place_among (texts_of b) p) → None ≡ object_number b.units (name_in (texts_of b) q) → Err Unknown ≡ points_reply b p q
+  points_nameless v e f =
+      let (c, is) = some_cell b.units _ v e in
+      points_opened (Some c) None is (no_object b.units _ f)
+
+  alias_opened : (o k : Option Cell) → place_among (texts_of b) p ≡ o → place_among (texts_of b) q ≡ k
+      → asked NoPlace o (λ c. asked Unknown k (λ d. Ok (shares (texts_of b) c d))) ≡ alias_reply b p q
+  alias_opened o k e f =
+      ap (λ x. asked NoPlace x (λ c. asked Unknown k (λ d. Ok (shares (texts_of b) c d)))) (sym e)
+      ∙ ap (λ x. asked NoPlace (place_among (texts_of b) p) (λ c. asked Unknown x (λ d. Ok (shares (texts_of b) c d)))) (sym f)
+      ∙ sym (ap (λ s. cond s (alias NoPlace Unknown (texts_of b) p q) (Err NotSettled)) open_book)
+
+  pub alias_placeless : None ≡ cell_number b.units (place_among (texts_of b) p) → Err NoPlace ≡ alias_reply b p q
+  alias_placeless e = alias_opened None _ (no_cell b.units _ e) refl
+
+  pub alias_of_one : (v : ℕ) → Some v ≡ cell_number b.units (place_among (texts_of b) p) → None ≡ cell_number b.units (place_among (texts_of b) q) → Err Unknown ≡ alias_reply b p q
+  alias_of_one v e f =
+      let (c, is) = some_cell b.units _ v e in
+      alias_opened (Some c) None is (no_cell b.units _ f)
 
 -- a settled engine that holds the book's list
 module _ (b : Book) (m : Meaning) (holds : m.system ≡ book_list b) (settled : m.settled ≡ true) where

@@ -28,7 +28,7 @@ lawful_fact texts =
 laid_fact : (units : StandingUnits) → IsProp (LaidOut units)
 unfolding LaidOut
 laid_fact units =
-    let each : (n : List ℕ) → IsProp (◌≡◌ (first_in (notes units.held.names n)) (laid_first (table (standing (units_of units))) n)) = λ n. hlevel props in
+    let each : (n : List ℕ) → IsProp (◌≡◌ (first_in (notes units.names n)) (laid_first (table (standing (units_of units))) n)) = λ n. hlevel props in
     Π_prop each
 
 pub right_of : {m : Meaning} {units : StandingUnits} {list : UnitList} → ∥ SettledRight m units list ∥₁ → SettledRight m units list

@@ -1,6 +1,4 @@
-use Rattle.std.proofs.Common.{vec_items, ap, ◌∙◌, subst}
-use Rattle.std.proofs.lemmas.List.{take_all}
-use Rattle.analyser.specs.Histories.{History, book_from}
+use Rattle.std.proofs.Common.{vec_items}
 use Rattle.analyser.specs.States.{book_of}
 use Rattle.analyser.proofs.Runs.{turn_book, turn_reply}
 use Rattle.analyser.proofs.history.run.Goals as goal
@@ -15,12 +13,3 @@ loop-c-preserved c =
       turn_reply start calls i c.loop-c-test.true b inv.1 (vec_items c.loop-c.replies) (vec_items c.push.new.self) c.make.result c.in_ok-push.ensures.items inv.0 c.make.ensures.says,
       turn_book start calls i c.loop-c-test.true b inv.1 (book_of c.make.new.analyser) c.make.ensures.after,
     )
-
-pub returns : goal.returns
-returns c =
-    let start = book_of c.args.analyser.now in
-    let whole = take_all c.loop-c.c-index c.args.calls.now c.loop-c-test.false in
-    record {
-      says = subst (λ cs. History start cs (vec_items c.loop-c.replies)) whole c.loop-c.invariant.0;
-      after = c.loop-c.invariant.1 ∙ ap (book_from start) whole;
-    }
