@@ -193,13 +193,12 @@ impl<M: Merge, E: Engine> Engine for Merging<M, E> {
         self.gathering()?;
         prepare(&mut self.merge, &mut self.plan);
         hand_plan(&mut self.below, &self.plan)?;
-        match self.below.settle() {
-            Ok(()) => {
-                self.settled = true;
-                Ok(())
-            }
-            Err(fault) => Err(raise(fault, &self.plan)),
+        // Stays: under `map_err` the proof of what `raise` requires is left open inside the closure.
+        if let Err(fault) = self.below.settle() {
+            return Err(raise(fault, &self.plan));
         }
+        self.settled = true;
+        Ok(())
     }
 
     fn holds(&mut self, v: u16, o: u16) -> Result<bool, EngineFault> {
