@@ -1,14 +1,13 @@
 -- Reading a lone text. Assumes nothing.
-use Rattle.std.proofs.Common.{◌≡◌, ℕ, ◌<◌, ◌≤◌, Bool, true, false, cond, ltb, List, [], ◌∷◌, length, Some, None, Ok, Err, Option, Result, sym, refl, ap, ◌∙◌, subst, arith}
+use Rattle.std.proofs.Common.{◌≡◌, ℕ, ◌<◌, ◌≤◌, Bool, true, false, cond, ltb, List, [], length, Ok, Err, Result, sym, refl, ap, ◌∙◌, arith}
 use Rattle.std.specs.Result.{is_err}
 use Rattle.std.proofs.lemmas.Bool.{lt-ltb, le-ltb, ltb-false, cond-true, cond-false}
-use Rattle.grammar.specs.declared.state.Found.{Found}
 use Rattle.lexemes.specs.declared.location.Location.{Location}
 use Rattle.grammar.specs.declared.unit.UnitFault.{UnitFault}
 use Rattle.grammar.specs.declared.unit.UnitFault.TheVariants.{TooLong, Grammar}
 use Rattle.grammar.specs.Parse.{Statement}
-use Rattle.grammar.specs.Meanings.{statements_from, statement_in, verdict}
-use Rattle.grammar.specs.Units.{graded, read, outcome, or_none, statements_in, NextOf}
+use Rattle.grammar.specs.Meanings.{statements_from, verdict}
+use Rattle.grammar.specs.Units.{graded, read, outcome, or_none, statements_in}
 
 pub too_long : (text : List ℕ) → 4096 < length text → read text ≡ Err TooLong
 unfolding read
@@ -70,18 +69,5 @@ pub record Left (text : List ℕ) (at : ℕ) (P : List Statement → Type 0) : T
   pub read : statements_from text at ≡ Ok rest
   pub holds : P rest
 
-pub left_all : (text : List ℕ) (P : List Statement → Type 0) → Read text → P (statements_in text) → Left text 0 P
-left_all text P r h = record { rest = statements_in text; read = r.whole; holds = h }
-
 pub left_from : (text : List ℕ) (P : List Statement → Type 0) → Read text → (at : ℕ) → at ≡ 0 → P (statements_in text) → Left text at P
-left_from text P r at e h = subst (λ (n : ℕ). Left text n P) (sym e) (left_all text P r h)
-
-module _ {text : List ℕ} {at : ℕ} {P : List Statement → Type 0} (h : Left text at P) where
-  pub left_more : (Q : List Statement → Type 0) (o : Option Found) (f : Found) → NextOf text at o → o ≡ Some f → ((ss : List Statement) → P (statement_in text f ∷ ss) → Q ss) →
-      Left text f.end Q × (at < f.end) × (f.end ≤ length text)
-  left_more Q o f next is step =
-      let (rest, here, after, on, within) = subst (NextOf text at) is next h.rest h.read in
-      (record { rest = rest; read = after; holds = step rest (subst P here h.holds) }, on, within)
-
-  pub left_none : (o : Option Found) → NextOf text at o → o ≡ None → P []
-  left_none o next is = subst P (subst (NextOf text at) is next h.rest h.read) h.holds
+left_from text P r at e h = record { rest = statements_in text; read = ap (statements_from text) e ∙ r.whole; holds = h }
