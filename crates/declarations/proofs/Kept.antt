@@ -8,12 +8,13 @@ use Rattle.grammar.specs.declared.item.Item.{Item}
 use Rattle.grammar.specs.declared.item.Item.TheVariants.{Assign, Store, Invoke}
 use Rattle.grammar.specs.declared.state.Found.{Found}
 use Rattle.grammar.specs.Grammar as grammar
+use Rattle.grammar.specs.Units.{ItemAt}
 use Rattle.grammar.specs.Parse.{Statement, with}
 use Rattle.grammar.specs.Meanings.{callee_in, arguments_in, value_in, item_in, statement_in, statements_from}
 use Rattle.grammar.proofs.Reading.{read_whole}
 use Rattle.declarations.specs.declared.cursor.Declaration.{Declaration}
 use Rattle.declarations.specs.Declarations.{Entry, Mention, declares, uses, calls, mentions, call_mentions, value_mentions, entry, kept, mentions_at, mentions_in}
-use Rattle.declarations.specs.Meanings.{declarations_of, declarations_from, declaration_in, ItemAt, NextDeclaration, AllDeclarations}
+use Rattle.declarations.specs.Meanings.{declarations_of, declarations_from, declaration_in, NextDeclaration, AllDeclarations}
 
 no_uses : (ps : List grammar.Place) → flat_map kept (map uses ps) ≡ []
 no_uses [] = refl

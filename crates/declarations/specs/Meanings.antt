@@ -1,10 +1,9 @@
 -- What mentions and declarations mean, over the text that they were read from.
-use Rattle.std.specs.Prelude.{◌≡◌, ℕ, ◌<◌, ◌≤◌, List, [], ◌∷◌, map, length, take, Some, None, Ok, Err, Option, Result, slice_index_or}
+use Rattle.std.specs.Prelude.{◌≡◌, ℕ, ◌<◌, ◌≤◌, List, [], ◌∷◌, map, length, Some, None, Ok, Err, Option, Result, slice_index_or}
 use Rattle.std.specs.List.{flat_map}
 use Rattle.lexemes.specs.Texts.{name_in_text}
-use Rattle.grammar.specs.declared.state.Found.{Found}
-use Rattle.grammar.specs.Parse.{Statement, with}
-use Rattle.grammar.specs.Meanings.{place_in, statement_in, statements_from}
+use Rattle.grammar.specs.Parse.{Statement}
+use Rattle.grammar.specs.Meanings.{place_in, statements_from}
 use Rattle.grammar.specs.Units.{read, outcome}
 use Rattle.declarations.specs.declared.mention.Mention.{Mention}
 use Rattle.declarations.specs.declared.mention.Mention.TheVariants.{Declares, Uses, Calls}
@@ -24,9 +23,8 @@ module _ (text : List ℕ) where
   abbrev pub key : List Mention → ℕ → List ℕ
   key ms i = slice_index_or (map spelling ms) i []
 
-  -- the first n mentions
-  abbrev pub noted : ℕ → List Mention → List declarations.Mention
-  noted n ms = map mention_in (take n ms)
+  abbrev pub noted : List Mention → List declarations.Mention
+  noted ms = map mention_in ms
 
   abbrev pub declaration_in : Declaration → declarations.Mention
   declaration_in d = declarations.declares d.linkage (name_in_text text d.name) d.slots
@@ -42,11 +40,6 @@ declarations_of (Err off) = Err off
 -- the declarations of a text from an offset on, or the offset of its grammar fault
 abbrev pub declarations_from : List ℕ → ℕ → Result (List declarations.Mention) ℕ
 declarations_from text at = declarations_of (statements_from text at)
-
--- an item was found at an offset, or the text ends there or has a fault
-abbrev pub ItemAt : List ℕ → ℕ → Option Found → Type 0
-ItemAt text at None = (ss : List Statement) → statements_from text at ≡ Ok ss → ss ≡ []
-ItemAt text at (Some f) = (statements_from text at ≡ with (statement_in text f) (statements_from text f.end)) × (at < f.end) × (f.end ≤ length text)
 
 -- of the declarations from an offset on, the one that was found is the first, and those after its end are the rest
 abbrev pub NextDeclaration : List ℕ → ℕ → Option Declaration → Type 0

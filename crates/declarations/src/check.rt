@@ -1,5 +1,6 @@
 // The earliest name of a unit text that breaks a declaration rule.
 ghost use Rattle.std.specs.Prelude.{◌≡◌, ◌<◌, ◌≤◌, [], map, length, Ok as Fine};
+ghost use Rattle.arrayvec.specs.ArrayVec.{array_vec_len};
 ghost use Rattle.numbering.specs.Keys.{Numbered};
 ghost use Rattle.numbering.specs.Lists.{same_list, hash_of};
 ghost use Rattle.numbering.proofs.Lists.{lists_equivalence, lists_alike};
@@ -8,29 +9,29 @@ ghost use Rattle.declarations.specs.Declarations.{mentions_in, fault_after, faul
 ghost use Rattle.declarations.specs.Meanings.{noted, key, mention_in};
 ghost use Rattle.declarations.specs.Verdicts.{unit_verdict, KnownVerdicts};
 
-use crate::mention::{Mention, is_right, name_of, note_item, offset_of, size_after};
-use grammar::item::Linkage;
-use grammar::unit::{UnitFault, check_text, item_from};
-use lexemes::lexeme::{Span, bytes_of, same};
+use crate::mention::{Mention, Mentions, note_item};
+use arrayvec::ArrayVec;
+use grammar::unit::{Items, UnitFault, check_text};
+use lexemes::lexeme::bytes_of;
 use lexemes::location::locate;
-use numbering::{KeyBank, hash_bytes, number};
+use numbering::{KeyBank, hash_items, number};
 
-// Memory for a check, used again by the next: an accepted text has no more mentions than bytes, 4,096, and an item up to 8.
-#[derive(Clone, Copy)]
+// Memory for a check, used again by the next.
+#[derive(Drop)]
 pub struct DeclarationMemory {
-    mentions: [Mention; 4104],
+    mentions: Mentions,
     first: [u16; 4104],
-    links: [u16; 4104],
+    links: [Option<u16>; 4104],
+    // Stays: a block's length of 0 is the rules' own word for a name that is not declared.
     sizes: [u32; 4104],
 }
 
 impl DeclarationMemory {
     pub fn new() -> Self {
-        let unused = Span { from: 0, to: 0 };
         DeclarationMemory {
-            mentions: [Mention::Declares(Linkage::Defined, unused, 0); 4104],
+            mentions: ArrayVec::new(),
             first: [0; 4104],
-            links: [0; 4104],
+            links: [None; 4104],
             sizes: [0; 4104],
         }
     }
@@ -48,7 +49,7 @@ impl<'a> Names<'a> {
         requires { i < length self.now.mentions.now }
         ensures { result.now ≡ key self.now.text.now self.now.mentions.now i }
     {
-        bytes_of(self.text, name_of(self.mentions[i]))
+        bytes_of(self.text, self.mentions[i].name())
     }
 }
 
@@ -68,28 +69,24 @@ impl<'a> KeyBank for Names<'a> {
     }
 
     fn hash(&self, i: usize) -> u32 {
-        hash_bytes(self.name(i))
+        hash_items(self.name(i))
     }
 
     fn is_same(&self, i: usize, j: usize) -> bool {
-        same(self.name(i), self.name(j))
+        self.name(i) == self.name(j)
     }
 }
 
-// Notes the mentions of a text, in order; how many there are.
-fn note_all(text: &[u8], mentions: &mut [Mention]) -> usize
-    requires admitted { Fine tt ≡ outcome (read text.now) }
-    requires room { 4104 ≤ length mentions.old }
-    ensures few { result ≤ 4096 }
-    ensures all { noted text.now result mentions.new ≡ mentions_in text.now }
+// Notes the mentions of a text, in order.
+fn note_all(text: &[u8], mentions: &mut Mentions)
+    requires { Fine tt ≡ outcome (read text.now) }
+    ensures few { array_vec_len mentions.new ≤ 4096 }
+    ensures all { noted text.now mentions.new.items ≡ mentions_in text.now }
 {
-    let mut at = 0;
-    let mut count = 0;
-    while let Some(found) = item_from(text, at) {
-        count = note_item(mentions, count, found.item);
-        at = found.end;
+    mentions.clear();
+    for found in Items::new(text, 0) {
+        note_item(mentions, found.item);
     }
-    count
 }
 
 // The offset of the first mention that breaks a rule, given the first position of each name.
@@ -100,14 +97,14 @@ fn first_fault(names: &Names, first: &[u16], sizes: &mut [u32]) -> Option<usize>
     ensures { result ≡ fault_after [] (map (mention_in names.now.text.now) names.now.mentions.now) }
 {
     sizes.fill(0);
-    for k in 0..names.mentions.len() {
-        let mention = names.mentions[k];
-        let at = first[k] as usize;
+    // Stays: `first` and the lengths are read by position, and only the mentions are iterated.
+    for (k, mention) in names.mentions.iter().enumerate() {
+        let at = usize::from(first[k]);
         let size = sizes[at];
-        if !is_right(mention, size) {
-            return Some(offset_of(mention));
+        if !mention.is_right(size) {
+            return Some(mention.offset());
         }
-        sizes[at] = size_after(mention, size);
+        sizes[at] = mention.size_after(size);
     }
     None
 }
@@ -117,11 +114,9 @@ fn declaration_fault(text: &[u8], memory: &mut DeclarationMemory) -> Option<usiz
     requires { Fine tt ≡ outcome (read text.now) }
     ensures { result ≡ fault_in text.now }
 {
-    let count = note_all(text, &mut memory.mentions);
-    let names = Names {
-        text,
-        mentions: &memory.mentions[..count],
-    };
+    note_all(text, &mut memory.mentions);
+    let mentions = memory.mentions.as_slice();
+    let names = Names { text, mentions };
     number(&names, &mut memory.first, &mut memory.links);
     first_fault(&names, &memory.first, &mut memory.sizes)
 }
@@ -131,9 +126,7 @@ pub fn check_unit(text: &[u8], memory: &mut DeclarationMemory) -> Result<(), Uni
     ensures verdict { result ≡ unit_verdict text.now }
     ensures known { KnownVerdicts }
 {
-    if let Err(fault) = check_text(text) {
-        return Err(fault);
-    }
+    check_text(text)?;
     match declaration_fault(text, memory) {
         Some(offset) => Err(UnitFault::Declaration(locate(text, offset))),
         None => Ok(()),
@@ -147,13 +140,13 @@ mod tests {
     // The refusal's number and offset, 0 and 0 where the text is accepted.
     fn refusal(text: &[u8]) -> (u8, usize) {
         let mut memory = DeclarationMemory::new();
-        match check_unit(text, &mut memory) {
-            Ok(()) => (0, 0),
-            Err(fault) => match fault.location() {
-                Some(location) => (fault.number(), location.offset),
-                None => (fault.number(), 0),
-            },
-        }
+        check_unit(text, &mut memory).err().map_or((0, 0), |fault| {
+            let location = fault.location();
+            (
+                fault.number(),
+                location.map_or(0, |location| location.offset),
+            )
+        })
     }
 
     #[test]

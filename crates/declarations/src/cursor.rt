@@ -3,11 +3,11 @@ ghost use Rattle.std.specs.Prelude.{◌≡◌, ℕ, List, IfSome};
 ghost use Rattle.std.specs.List.{flat_map};
 ghost use Rattle.grammar.specs.Meanings.{item_in};
 ghost use Rattle.declarations.specs.Declarations.{kept, mentions as mentions_of};
-ghost use Rattle.declarations.specs.Meanings.{declaration_or, ItemAt, NextDeclaration, Onward, AllDeclarations};
+ghost use Rattle.declarations.specs.Meanings.{declaration_or, NextDeclaration, Onward, AllDeclarations};
 
 use grammar::item::{Item, Linkage};
-use grammar::reader::next_item;
 use grammar::state::Found;
+use grammar::unit::Items;
 use lexemes::lexeme::Span;
 
 // A name that is declared, how many slots follow its own cell (none for a variable, n + 1 for a function with n
@@ -35,20 +35,10 @@ fn declared(found: Found) -> Option<Declaration>
         Item::Function(linkage, name, count) => Some(Declaration {
             linkage,
             name,
-            slots: count as u16 + 1,
+            slots: u16::from(count) + 1,
             end,
         }),
         Item::Assign(..) | Item::Store(..) | Item::Invoke(_) => None,
-    }
-}
-
-// The item from an offset on; none at the end, and none at a fault.
-fn item_at(text: &[u8], at: usize) -> Option<Found>
-    ensures { ItemAt text.now at result }
-{
-    match next_item(text, at) {
-        Ok(found) => found,
-        Err(_) => None,
     }
 }
 
@@ -58,12 +48,10 @@ pub fn next_declaration(text: &[u8], at: usize) -> Option<Declaration>
     ensures all { AllDeclarations text.now }
     ensures onward { Onward text.now at result }
 {
-    let mut from = at;
-    while let Some(found) = item_at(text, from) {
+    for found in Items::new(text, at) {
         if let Some(declaration) = declared(found) {
             return Some(declaration);
         }
-        from = found.end;
     }
     None
 }

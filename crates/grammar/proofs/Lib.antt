@@ -1,7 +1,7 @@
 pub mod Prefixes
 pub mod Drives
 pub mod Recognises
-pub mod Six
 pub mod Units
 pub mod Determined
 pub mod Reading
+pub mod Items

@@ -1,5 +1,6 @@
 -- Reading a lone text. Assumes nothing.
 use Rattle.std.proofs.Common.{◌≡◌, ℕ, ◌<◌, ◌≤◌, Bool, true, false, cond, ltb, List, [], ◌∷◌, length, Some, None, Ok, Err, Option, Result, sym, refl, ap, ◌∙◌, subst, arith}
+use Rattle.std.specs.Result.{is_err}
 use Rattle.std.proofs.lemmas.Bool.{lt-ltb, le-ltb, ltb-false, cond-true, cond-false}
 use Rattle.grammar.specs.declared.state.Found.{Found}
 use Rattle.lexemes.specs.declared.location.Location.{Location}
@@ -54,6 +55,15 @@ read_none text f e = go (read text) e
     go (Ok ss) h = let z : ◌≡◌ {A = ℕ} 0 1 = cc in absurd (omega arith)
     go (Err g) h = refl
 
+-- the same, by a test of the outcome
+pub read_admitted : (text : List ℕ) (r : Result (Prim.Unit {0}) UnitFault) → r ≡ outcome (read text) → is_err r ≡ false → Read text
+read_admitted text (Ok done) e h = read_whole text e
+read_admitted text (Err f) e h = let z : ◌≡◌ {A = ℕ} 0 1 = cc in absurd (omega arith)
+
+pub read_refused : (text : List ℕ) (r : Result (Prim.Unit {0}) UnitFault) → r ≡ outcome (read text) → is_err r ≡ true → statements_in text ≡ []
+read_refused text (Ok done) e h = let z : ◌≡◌ {A = ℕ} 0 1 = cc in absurd (omega arith)
+read_refused text (Err f) e h = read_none text f e
+
 -- what is left of a text's statements from an offset on, of which P holds
 pub record Left (text : List ℕ) (at : ℕ) (P : List Statement → Type 0) : Type 0 where
   pub rest : List Statement
@@ -62,6 +72,9 @@ pub record Left (text : List ℕ) (at : ℕ) (P : List Statement → Type 0) : T
 
 pub left_all : (text : List ℕ) (P : List Statement → Type 0) → Read text → P (statements_in text) → Left text 0 P
 left_all text P r h = record { rest = statements_in text; read = r.whole; holds = h }
+
+pub left_from : (text : List ℕ) (P : List Statement → Type 0) → Read text → (at : ℕ) → at ≡ 0 → P (statements_in text) → Left text at P
+left_from text P r at e h = subst (λ (n : ℕ). Left text n P) (sym e) (left_all text P r h)
 
 module _ {text : List ℕ} {at : ℕ} {P : List Statement → Type 0} (h : Left text at P) where
   pub left_more : (Q : List Statement → Type 0) (o : Option Found) (f : Found) → NextOf text at o → o ≡ Some f → ((ss : List Statement) → P (statement_in text f ∷ ss) → Q ss) →

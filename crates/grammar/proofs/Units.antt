@@ -5,8 +5,9 @@ use Rattle.lexemes.specs.Lexemes.{pieces_from}
 use Rattle.lexemes.specs.Texts.{first_at}
 use Rattle.lexemes.proofs.Lexical.{text_lexical}
 use Rattle.grammar.specs.Parse.{Statement, item_of, with, items}
+use Rattle.lexemes.specs.declared.location.Location.{Location}
 use Rattle.grammar.specs.declared.state.Found.{Found}
-use Rattle.grammar.specs.Meanings.{statement_in, statements_from, statements_of, ending, verdict, Checked}
+use Rattle.grammar.specs.Meanings.{statement_in, statements_from, statements_of, verdict, Checked}
 use Rattle.grammar.proofs.Recognises.{recognised}
 
 -- statements before the others
@@ -58,17 +59,10 @@ checked text r e =
     subst (λ (x : Result (List Statement) ℕ). Reading (length text) (pieces_from text 0) (items x)) e
     (recognised (length text) (first_at (pieces_from text 0)) (pieces_from text 0) (text_lexical text 0))
 
-verdict_ending : (text : List ℕ) (r : Result (List Statement) ℕ) → verdict text (ending r) ≡ verdict text r
-verdict_ending text (Ok ss) = refl
-verdict_ending text (Err off) = refl
-
 judged : (text : List ℕ) (r : Result (List Statement) ℕ) → statements_from text 0 ≡ r → Checked text (verdict text r)
 judged text (Ok ss) e = (map item_of ss, checked text (Ok ss) e)
 judged text (Err off) e = let (fault, none) = checked text (Err off) e in (fault, refl, none)
 
--- a text's verdict, from where its reading ends
-pub verdict_from : (text : List ℕ) (end : Result (Prim.Unit {0}) ℕ) → end ≡ ending (statements_from text 0) →
-    Checked text (verdict text end) × (verdict text end ≡ verdict text (statements_from text 0))
-verdict_from text end e =
-    let same : verdict text end ≡ verdict text (statements_from text 0) = ap (verdict text) e ∙ verdict_ending text (statements_from text 0) in
-    (subst (Checked text) (sym same) (judged text (statements_from text 0) refl), same)
+-- what the statements of a text say of it
+pub verdict_right : (text : List ℕ) (r : Result (Prim.Unit {0}) Location) → r ≡ verdict text (statements_from text 0) → Checked text r
+verdict_right text r e = subst (Checked text) (sym e) (judged text (statements_from text 0) refl)

@@ -2,6 +2,8 @@ pub mod Grammar
 pub mod Automaton
 pub mod Faults
 pub mod Parse
+pub mod Given
 pub mod Meanings
 pub mod Units
 pub mod Texts
+pub mod Items

@@ -1,5 +1,5 @@
 -- What items and states mean, over the text that they were read from. Assumes nothing.
-use Rattle.std.specs.Prelude.{◌≡◌, ℕ, ◌<◌, ◌≤◌, List, [], map, length, take, Some, None, Ok, Err, Option, Result}
+use Rattle.std.specs.Prelude.{◌≡◌, ℕ, ◌<◌, ◌≤◌, List, [], map, length, Some, None, Ok, Err, Option, Result}
 use Rattle.grammar.specs.declared.item.Place.{Place}
 use Rattle.grammar.specs.declared.item.Callee.{Callee}
 use Rattle.grammar.specs.declared.item.Callee.TheVariants.{Direct, Through}
@@ -14,7 +14,8 @@ use Rattle.grammar.specs.declared.state.Role.TheVariants.{Target, Stored, Source
 use Rattle.grammar.specs.declared.state.State.{State}
 use Rattle.grammar.specs.declared.state.State.TheVariants.{Start, External, Variable as VariableOf, Function as FunctionOf, Counted, Ended, Placed, Named, Dotted, Slotted, Valued, Addressed, Opened, Closed, Called}
 use Rattle.grammar.specs.declared.state.Step.{Step}
-use Rattle.grammar.specs.declared.state.Step.TheVariants.{More, Done, Fault}
+use Rattle.grammar.specs.declared.state.Step.TheVariants.{More, Done}
+use Rattle.grammar.specs.Given.{given}
 use Rattle.grammar.specs.Grammar as grammar
 use Rattle.grammar.specs.Automaton as automaton
 use Rattle.grammar.specs.declared.state.Found.{Found}
@@ -39,7 +40,7 @@ module _ (text : List ℕ) where
   callee_in (Through p) = grammar.through (place_in p)
 
   abbrev pub arguments_in : Arguments → List grammar.Place
-  arguments_in a = map place_in (take a.count a.places)
+  arguments_in a = map place_in (given a)
 
   abbrev pub call_in : Call → grammar.Call
   call_in c = record { callee = callee_in c.callee; arguments = arguments_in c.arguments }
@@ -87,14 +88,10 @@ module _ (text : List ℕ) where
   state_in (Closed t p) = automaton.closed (target_in t) (place_in p)
   state_in (Called t c) = automaton.called (target_in t) (callee_in c)
 
-  abbrev pub step_in : Step → automaton.Step
-  step_in (More s) = automaton.more (state_in s)
-  step_in (Done i) = automaton.done (item_in i)
-  step_in Fault = automaton.fault
-
-  abbrev pub arguments_or : Option Arguments → Option (List grammar.Place)
-  arguments_or None = None
-  arguments_or (Some a) = Some (arguments_in a)
+  abbrev pub step_in : Option Step → automaton.Step
+  step_in (Some (More s)) = automaton.more (state_in s)
+  step_in (Some (Done i)) = automaton.done (item_in i)
+  step_in None = automaton.fault
 
   -- the statements of the text from an offset on, or the offset of its fault
   abbrev pub statements_from : ℕ → Result (List Statement) ℕ

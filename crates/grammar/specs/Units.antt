@@ -6,7 +6,7 @@ use Rattle.grammar.specs.declared.unit.UnitFault.{UnitFault}
 use Rattle.grammar.specs.declared.unit.UnitFault.TheVariants.{TooLong, Grammar, Declaration}
 use Rattle.grammar.specs.declared.state.Found.{Found}
 use Rattle.grammar.specs.Grammar.{Item}
-use Rattle.grammar.specs.Parse.{Statement, item_of}
+use Rattle.grammar.specs.Parse.{Statement, item_of, with}
 use Rattle.grammar.specs.Meanings.{statements_from, statement_in}
 
 -- a refusal's number, and where in the text it lies
@@ -48,3 +48,8 @@ NextOf text at None = (ss : List Statement) → statements_from text at ≡ Ok s
 NextOf text at (Some f) =
     (ss : List Statement) → statements_from text at ≡ Ok ss →
     (rest : List Statement) × (ss ≡ statement_in text f ∷ rest) × (statements_from text f.end ≡ Ok rest) × (at < f.end) × (f.end ≤ length text)
+
+-- an item was found at an offset, or the text ends there or has a fault
+abbrev pub ItemAt : List ℕ → ℕ → Option Found → Type 0
+ItemAt text at None = (ss : List Statement) → statements_from text at ≡ Ok ss → ss ≡ []
+ItemAt text at (Some f) = (statements_from text at ≡ with (statement_in text f) (statements_from text f.end)) × (at < f.end) × (f.end ≤ length text)

@@ -1,4 +1,6 @@
 // The items of a unit text: names are spans of it.
+ghost use Rattle.std.specs.Prelude.{◌≡◌, ◌<◌, ◌≤◌, [], ◌∷◌, ◌++◌, length, MatchOption};
+
 use lexemes::lexeme::Span;
 
 // Whether a declaration defines its name, or says that some unit may.
@@ -31,8 +33,56 @@ pub enum Callee {
 // Up to six places.
 #[derive(Clone, Copy)]
 pub struct Arguments {
-    pub places: [Place; 6],
-    pub count: usize,
+    places: [Place; 6],
+    count: usize,
+    ghost few: { count ≤ 6 },
+}
+
+impl Arguments {
+    ghost use Rattle.grammar.specs.Given.{given};
+
+    pub fn new() -> Self
+        ensures { given result ≡ [] }
+    {
+        let unused = Place {
+            base: Span { from: 0, to: 0 },
+            slot: Slot::Bare,
+        };
+        Arguments {
+            places: [unused; 6],
+            count: 0,
+        }
+    }
+
+    // How many there are.
+    pub fn len(&self) -> usize
+        ensures all { result ≡ length (given self.now) }
+        ensures few { result ≤ 6 }
+    {
+        self.count
+    }
+
+    pub fn as_slice(&self) -> &[Place]
+        ensures all { result.now ≡ given self.now }
+        ensures few { length result.now ≤ 6 }
+    {
+        &self.places[..self.count]
+    }
+
+    // One place more, up to six.
+    pub fn push(self, place: Place) -> Option<Self>
+        ensures { MatchOption result (6 ≤ length (given self)) (λ more. (length (given self) < 6) × (given more ≡ given self ++ place ∷ [])) }
+    {
+        if self.count == 6 {
+            return None;
+        }
+        let mut places = self.places;
+        places[self.count] = place;
+        Some(Arguments {
+            places,
+            count: self.count + 1,
+        })
+    }
 }
 
 #[derive(Clone, Copy)]

@@ -12,10 +12,7 @@ use lexemes::location::{Location, locate};
 fn is_start(state: State) -> bool
     ensures { (text : List ℕ) → result ≡ is_start (state_in text state) }
 {
-    match state {
-        State::Start => true,
-        _ => false,
-    }
+    matches!(state, State::Start)
 }
 
 // The next item from `at` on, none at the text's end, or the offset of the fault.
@@ -29,15 +26,15 @@ pub fn next_item(text: &[u8], at: usize) -> Result<Option<Found>, usize>
     }
     let mut state = State::Start;
     let mut from = start;
+    // Stays: the loop ends at a fault or at an item, and a token iterator would need a state for either end.
     while let Some(token) = next_token(text, from)? {
-        match stepped(text, state, token.lexeme) {
+        match stepped(text, state, token.lexeme).ok_or(token.at)? {
             Step::More(next) => state = next,
             Step::Done(item) => return Ok(Some(Found {
                 at: start,
                 item,
                 end: token.end,
             })),
-            Step::Fault => return Err(token.at),
         }
         from = token.end;
     }
@@ -53,6 +50,7 @@ fn read_all(text: &[u8]) -> Result<(), usize>
     ensures { result ≡ ending (statements_from text.now 0) }
 {
     let mut at = 0;
+    // Stays: `Items` ends at a fault without telling it, and here the fault's offset is the answer.
     while let Some(found) = next_item(text, at)? {
         at = found.end;
     }
@@ -65,8 +63,5 @@ pub fn check_grammar(text: &[u8]) -> Result<(), Location>
     ensures read { result ≡ verdict text.now (statements_from text.now 0) }
     ensures only { Determined }
 {
-    match read_all(text) {
-        Ok(()) => Ok(()),
-        Err(offset) => Err(locate(text, offset)),
-    }
+    read_all(text).map_err(|offset| locate(text, offset))
 }

@@ -33,12 +33,11 @@ pub enum State {
     Called(Option<Place>, Callee),
 }
 
-// Where a lexeme leads: on, to the end of an item, or nowhere.
+// Where a lexeme leads: on, or to the end of an item.
 #[derive(Clone, Copy)]
 pub enum Step {
     More(State),
     Done(Item),
-    Fault,
 }
 
 // An item, the offset of its first lexeme, and that after it.

@@ -1,8 +1,8 @@
 // A byte's class, by a table of 256.
 ghost use Rattle.std.specs.Prelude.{◌≡◌};
-ghost use Rattle.lexemes.specs.Classes.{class_of};
+ghost use Rattle.lexemes.specs.Classes.{class_of, is_blank};
 
-#[derive(Clone, Copy)]
+#[derive(Clone, Copy, PartialEq, Eq, Debug)]
 pub enum Class {
     Blank,
     Letter,
@@ -13,6 +13,7 @@ pub enum Class {
 
 use Class::{Blank, Digit, Letter, Other, Sign};
 
+// Stays: a byte's class is read from one constant table, a rule of the project.
 const CLASSES: &[Class; 256] = &[
     Other, Other, Other, Other, Other, Other, Other, Other, Other, Blank, Blank, Other, Other,
     Blank, Other, Other, Other, Other, Other, Other, Other, Other, Other, Other, Other, Other,
@@ -41,4 +42,10 @@ pub fn class_of(b: u8) -> Class
     ensures { result ≡ class_of b }
 {
     CLASSES[b as usize]
+}
+
+pub fn is_blank(b: u8) -> bool
+    ensures { result ≡ is_blank b }
+{
+    class_of(b) == Class::Blank
 }

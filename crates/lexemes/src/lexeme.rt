@@ -1,10 +1,9 @@
 // The lexemes of a unit text.
 ghost use Rattle.std.specs.Prelude.{◌≡◌};
-ghost use Rattle.std.specs.Str.{bytes_eq};
 ghost use Rattle.lexemes.specs.Texts.{name_in_text};
-ghost use Rattle.lexemes.specs.Lexemes.{sign_of, reserved as reserved_of};
+ghost use Rattle.lexemes.specs.Lexemes.{sign_of, reserved};
 
-#[derive(Clone, Copy)]
+#[derive(Clone, Copy, PartialEq, Eq, Debug)]
 pub enum Sign {
     Equals,
     Ampersand,
@@ -16,6 +15,7 @@ pub enum Sign {
     Stop,
 }
 
+// Stays: signs are told by a match on character literals, a rule of the project.
 pub fn sign_of(b: u8) -> Option<Sign>
     ensures { result ≡ sign_of b }
 {
@@ -33,7 +33,7 @@ pub fn sign_of(b: u8) -> Option<Sign>
 }
 
 // The reserved words.
-#[derive(Clone, Copy)]
+#[derive(Clone, Copy, PartialEq, Eq, Debug)]
 pub enum Word {
     Var,
     Fun,
@@ -41,13 +41,13 @@ pub enum Word {
 }
 
 // The bytes of a text from one offset up to another.
-#[derive(Clone, Copy)]
+#[derive(Clone, Copy, PartialEq, Eq, Debug)]
 pub struct Span {
     pub from: usize,
     pub to: usize,
 }
 
-#[derive(Clone, Copy)]
+#[derive(Clone, Copy, PartialEq, Eq, Debug)]
 pub enum Lexeme {
     Sign(Sign),
     Word(Word),
@@ -56,27 +56,22 @@ pub enum Lexeme {
 }
 
 // A lexeme, the offset at which it begins, and that after it.
-#[derive(Clone, Copy)]
+#[derive(Clone, Copy, PartialEq, Eq, Debug)]
 pub struct Token {
     pub at: usize,
     pub lexeme: Lexeme,
     pub end: usize,
 }
 
-pub fn same(a: &[u8], b: &[u8]) -> bool
-    ensures { result ≡ bytes_eq a.now b.now }
-{
-    a == b
-}
-
+// Stays: reserved words are fixed byte strings compared with a name's bytes, a rule of the project.
 pub fn reserved(name: &[u8]) -> Option<Word>
-    ensures { result ≡ reserved_of name.now }
+    ensures { result ≡ reserved name.now }
 {
-    if same(name, b"var") {
+    if name == b"var".as_slice() {
         Some(Word::Var)
-    } else if same(name, b"fun") {
+    } else if name == b"fun".as_slice() {
         Some(Word::Fun)
-    } else if same(name, b"extern") {
+    } else if name == b"extern".as_slice() {
         Some(Word::Extern)
     } else {
         None

@@ -13,13 +13,8 @@ pub struct Location {
 pub fn line_of(text: &[u8], offset: usize) -> usize
     ensures { result ≡ line_of text.now offset }
 {
-    let mut line = 1;
-    for i in 0..offset.min(text.len()) {
-        if text[i] == b'\n' {
-            line += 1;
-        }
-    }
-    line
+    let before = &text[..offset.min(text.len())];
+    1 + before.iter().filter(|b| **b == b'\n').count()
 }
 
 pub fn locate(text: &[u8], offset: usize) -> Location

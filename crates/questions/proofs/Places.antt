@@ -3,6 +3,9 @@ use Rattle.std.proofs.Common.{◌≡◌, ℕ, Bool, true, false, cond, List, [],
 use Rattle.std.specs.Str.{bytes_eq}
 use Rattle.std.proofs.lemmas.Slice.Eq.{bytes_eq-Decides}
 use Rattle.std.proofs.lemmas.Bool.{cond-false}
+use Rattle.std.specs.List.{list_any}
+use Rattle.lexemes.specs.Classes as lexemes
+use Rattle.lexemes.specs.Classes.{class_of}
 use Rattle.lexemes.specs.declared.lexeme.Sign.{Sign}
 use Rattle.lexemes.specs.declared.lexeme.Sign.TheVariants.{Equals, Ampersand, Star, Open, Close, Comma, Semicolon, Stop}
 use Rattle.lexemes.specs.Terminals.{Name, Terminal, sign, word, name, number, Piece, lexeme, stray}
@@ -11,7 +14,14 @@ use Rattle.grammar.specs.declared.item.Slot.{Slot}
 use Rattle.grammar.specs.declared.item.Slot.TheVariants.{Bare, Result, Parameter}
 use Rattle.grammar.specs.Grammar.{Place, slot, place}
 use Rattle.grammar.specs.Faults.{Spells, none, one}
-use Rattle.questions.specs.Questions.{has_blank, slot_lexeme, last_slot, with_slot, after_name, place_from, Grammatical}
+use Rattle.questions.specs.Questions.{is_blank, has_blank, slot_lexeme, last_slot, with_slot, after_name, place_from, Grammatical}
+
+blank_class : (b : ℕ) → lexemes.is_blank b ≡ is_blank (class_of b)
+blank_class b = grind arith
+
+pub any_blank : (text : List ℕ) → list_any lexemes.is_blank text ≡ has_blank text
+any_blank [] = refl
+any_blank (b ∷ bs) = cc (blank_class b, any_blank bs)
 
 no_place : {X : Type 0} {p : Place} → None ≡ Some p → X
 no_place e = let z : ◌≡◌ {A = ℕ} 0 1 = cc in absurd (omega arith)

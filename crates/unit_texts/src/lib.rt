@@ -3,7 +3,6 @@
 
 ghost use Rattle.unit_texts.specs.Valves.{valve_first};
 
-use lexemes::lexeme::same;
 use units::names::FirstVariables;
 
 // Where the blocks of `fun open 1; fun shut 1; var v; var h; var x;` begin.
@@ -14,15 +13,15 @@ impl FirstVariables for Valves {
     ghost first = { λ _. valve_first };
 
     fn first_of(&self, name: &[u8]) -> u8 {
-        if same(name, b"open") {
+        if name == b"open".as_slice() {
             0
-        } else if same(name, b"shut") {
+        } else if name == b"shut".as_slice() {
             3
-        } else if same(name, b"v") {
+        } else if name == b"v".as_slice() {
             6
-        } else if same(name, b"h") {
+        } else if name == b"h".as_slice() {
             7
-        } else if same(name, b"x") {
+        } else if name == b"x".as_slice() {
             8
         } else {
             9
@@ -34,19 +33,17 @@ impl FirstVariables for Valves {
 mod tests {
     use crate::Valves;
     use grammar::reader::check_grammar;
-    use lexemes::location::Location;
     use units::calls::{call_pointer, count_calls};
     use units::listing::{ListedWord, count_words, list_words};
 
     const VALVES: &[u8] =
         b"fun open 1; fun shut 1; var v; var h; var x;\nh = &open; h = &shut;\nx = (*h)(v);";
 
+    // Stays: the expected values are written with one number for both outcomes.
     // 0 where the grammar admits the text, else 1 + offset.
     fn fault(text: &[u8]) -> usize {
-        match check_grammar(text) {
-            Ok(()) => 0,
-            Err(Location { offset, .. }) => offset.saturating_add(1),
-        }
+        let fault = check_grammar(text).err();
+        fault.map_or(0, |location| location.offset.saturating_add(1))
     }
 
     #[test]
@@ -81,11 +78,8 @@ mod tests {
 
     #[test]
     fn lines(rt: HostRuntime) {
-        let at = match check_grammar(b"var p;\r\nvar q;\nvar ;") {
-            Ok(()) => 0,
-            Err(Location { line, .. }) => line,
-        };
-        assert_eq!(rt; at, 3);
+        let fault = check_grammar(b"var p;\r\nvar q;\nvar ;").err();
+        assert_eq!(rt; fault.map_or(0, |location| location.line), 3);
     }
 
     #[test]
@@ -112,11 +106,8 @@ mod tests {
         assert_eq!(rt; count_words(b"(*p)(a, b); f(a); x = f();"), 4);
         assert_eq!(rt; count_words(b"x = y; oops"), 0);
         assert_eq!(rt; count_calls(b"(*p)(a, b); f(a); x = (*q.r)();"), 2);
-        let second = match call_pointer(b"(*p)(a, b); f(a); x = (*q.r)();", 1) {
-            Some(place) => place.base.from,
-            None => 0,
-        };
-        assert_eq!(rt; second, 24);
+        let second = call_pointer(b"(*p)(a, b); f(a); x = (*q.r)();", 1);
+        assert_eq!(rt; second.map_or(0, |place| place.base.from), 24);
         assert_eq!(rt; call_pointer(VALVES, 1).is_some(), false);
     }
 }

@@ -1,5 +1,5 @@
 -- Writing a list over another, part by part.
-use Rattle.std.proofs.Common.{◌≡◌, ℕ, zero, suc, ◌+◌, ◌<◌, ◌≤◌, List, [], ◌∷◌, ◌++◌, map, length, get_or, drop, set, Some, None, sym, ap, ◌∙◌, add-zero, arith}
+use Rattle.std.proofs.Common.{◌≡◌, ℕ, zero, suc, ◌+◌, ◌<◌, ◌≤◌, List, [], ◌∷◌, ◌++◌, map, length, get_or, drop, set, Some, sym, ap, ◌∙◌, add-zero, arith}
 use Rattle.std.specs.List.{flat_map, slice_get}
 use Rattle.std.proofs.lemmas.List.{drop_more, drop_all, length-append}
 use Rattle.std.proofs.lemmas.Option.{slice_get-get_or}
@@ -21,11 +21,6 @@ drop_nth xs i x e =
     let same : Some (get_or xs i x) ≡ Some x = sym (slice_get-get_or xs i x inside) ∙ e in
     let here : get_or xs i x ≡ x = cc in
     drop_more xs i x inside ∙ ap (λ (w : _). w ∷ drop (i + 1) xs) here
-
-pub nth_none : {X : Type 0} (xs : List X) (i : ℕ) → slice_get xs i ≡ None → length xs ≤ i
-nth_none [] i e = omega arith
-nth_none (y ∷ xs) zero e = let z : ◌≡◌ {A = ℕ} 0 1 = cc in absurd (omega arith)
-nth_none (y ∷ xs) (suc i) e = omega (arith, nth_none xs i e)
 
 -- what is left of a list, written over another from position n on
 module _ {X Y : Type 0} (h : X → Y) (vs : List X) (n : ℕ) where

@@ -1,15 +1,15 @@
 // The words of a whole text, in order.
 ghost use Rattle.std.specs.Prelude.{◌≡◌, ◌+◌, ◌≤◌, length, slice_set};
 ghost use Rattle.grammar.specs.Meanings.{statement_in};
-ghost use Rattle.units.specs.Listing.{listed, listing as listing_of, overlaid, words_in};
+ghost use Rattle.units.specs.Listing.{listed, listing, overlaid, words_in};
 
 use crate::names::FirstVariables;
-use crate::words::{word_at, word_count};
+use crate::words::{Reader, word_count};
 use grammar::state::Found;
-use grammar::unit::{check_text, item_from};
+use grammar::unit::{Items, check_text};
 
 // A word of a list, with its unit and the offset of its statement.
-#[derive(Clone, Copy)]
+#[derive(Clone, Copy, PartialEq, Eq, Debug)]
 pub struct ListedWord {
     pub word: u32,
     pub unit: usize,
@@ -20,37 +20,34 @@ pub struct ListedWord {
 fn put(out: &mut [ListedWord], from: usize, k: usize, word: ListedWord)
     ensures { out.new ≡ slice_set out.old (from + k) word }
 {
-    if from >= out.len() {
-        return;
-    }
-    if k < out.len() - from {
-        out[from + k] = word;
+    match from.checked_add(k) {
+        Some(at) if at < out.len() => out[at] = word,
+        _ => {}
     }
 }
 
 // Writes the words of a statement from position from + k on; how many words there are then.
 fn list_statement<N: FirstVariables>(
-    text: &[u8],
+    reader: &Reader<N>,
     unit: usize,
-    names: &N,
     found: Found,
     out: &mut [ListedWord],
     from: usize,
     k: usize,
 ) -> usize
     requires { k ≤ 28672 }
-    ensures written { out.new ≡ overlaid out.old (from + k) (listed (N.first names.now) unit (statement_in text.now found)) }
-    ensures count { result ≡ k + length (listed (N.first names.now) unit (statement_in text.now found)) }
+    ensures written { out.new ≡ overlaid out.old (from + k) (listed (N.first reader.now.names.now) unit (statement_in reader.now.text.now found)) }
+    ensures count { result ≡ k + length (listed (N.first reader.now.names.now) unit (statement_in reader.now.text.now found)) }
     ensures few { result ≤ k + 7 }
 {
-    let count = word_count(found.item);
-    for i in 0..count {
-        if let Some(word) = word_at(text, names, found.item, i) {
-            let at = found.at;
-            put(out, from, k + i, ListedWord { word, unit, at });
-        }
+    let at = found.at;
+    let words = reader.words_of(found.item);
+    let words = words.as_slice();
+    for (i, word) in words.iter().enumerate() {
+        let word = *word;
+        put(out, from, k + i, ListedWord { word, unit, at });
     }
-    k + count
+    k + words.len()
 }
 
 // Writes the words of a text from position `from` on, as far as there are positions, and answers how many words it has.
@@ -61,17 +58,16 @@ pub fn list_words<N: FirstVariables>(
     out: &mut [ListedWord],
     from: usize,
 ) -> usize
-    ensures written { out.new ≡ overlaid out.old from (listing_of (N.first names.now) unit text.now) }
-    ensures count { result ≡ length (listing_of (N.first names.now) unit text.now) }
+    ensures written { out.new ≡ overlaid out.old from (listing (N.first names.now) unit text.now) }
+    ensures count { result ≡ length (listing (N.first names.now) unit text.now) }
 {
-    if let Err(_) = check_text(text) {
+    if check_text(text).is_err() {
         return 0;
     }
-    let mut at = 0;
+    let reader = Reader { text, names };
     let mut k = 0;
-    while let Some(found) = item_from(text, at) {
-        k = list_statement(text, unit, names, found, out, from, k);
-        at = found.end;
+    for found in Items::new(text, 0) {
+        k = list_statement(&reader, unit, found, out, from, k);
     }
     k
 }
@@ -80,14 +76,12 @@ pub fn list_words<N: FirstVariables>(
 pub fn count_words(text: &[u8]) -> usize
     ensures { result ≡ length (words_in text.now) }
 {
-    if let Err(_) = check_text(text) {
+    if check_text(text).is_err() {
         return 0;
     }
-    let mut at = 0;
     let mut count = 0;
-    while let Some(found) = item_from(text, at) {
+    for found in Items::new(text, 0) {
         count += word_count(found.item);
-        at = found.end;
     }
     count
 }

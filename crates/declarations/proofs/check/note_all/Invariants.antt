@@ -1,9 +1,7 @@
-use Rattle.std.proofs.Common.{◌-◌, length}
+use Rattle.std.proofs.Common.{◌≡◌}
+use Rattle.grammar.specs.Items.{text_of, offset_of}
 use Rattle.declarations.proofs.Checking.{Noting}
 use Rattle.declarations.proofs.check.note_all.Given as goal
 
 abbrev pub invariant-loop-found : goal.invariant-loop-found
-invariant-loop-found l = Noting l.text l.mentions l.count l.at
-
-abbrev pub decreases-loop-found : goal.decreases-loop-found
-decreases-loop-found l = length l.text - l.at
+invariant-loop-found l = record { same : text_of l.found-iterator ≡ l.text; noting : Noting l.text l.mentions.items (offset_of l.found-iterator) }

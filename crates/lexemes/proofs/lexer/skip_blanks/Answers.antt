@@ -1,6 +1,8 @@
-use Rattle.std.proofs.Common.{◌∙◌, arith}
-use Rattle.lexemes.proofs.Bytes.{pieces_begin}
+use Rattle.lexemes.proofs.Bytes.{blanks_passed, blanks_stop}
 use Rattle.lexemes.proofs.lexer.skip_blanks.Goals as goal
 
-pub loop-i-preserved : goal.loop-i-preserved
-loop-i-preserved c = (omega arith, c.loop-i.invariant.1 ∙ pieces_begin _ _ _ c.loop-i-test.true c.in-Blank.ensures)
+pub returns-clause-same : goal.returns-clause-same
+returns-clause-same c = blanks_passed c.args.text.now c.args.at _ _ _ c.min.ensures c.end_of_blanks.ensures c.unwrap_or.ensures
+
+pub returns-clause-stops : goal.returns-clause-stops
+returns-clause-stops c = blanks_stop c.args.text.now c.args.at _ _ _ c.min.ensures c.end_of_blanks.ensures c.unwrap_or.ensures

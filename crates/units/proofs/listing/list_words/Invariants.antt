@@ -1,4 +1,5 @@
-use Rattle.std.proofs.Common.{◌-◌, ◌*◌, ◌≤◌, length}
+use Rattle.std.proofs.Common.{◌≡◌, ◌*◌, ◌≤◌, length}
+use Rattle.grammar.specs.Items.{text_of, offset_of}
 use Rattle.grammar.specs.Units.{statements_in}
 use Rattle.grammar.proofs.Reading.{Left}
 use Rattle.units.specs.Listing.{listed}
@@ -7,8 +8,10 @@ use Rattle.units.proofs.listing.list_words.Given as goal
 
 abbrev pub invariant-loop-found : goal.invariant-loop-found
 invariant-loop-found g l =
-    (l.at ≤ 4096) × (l.k ≤ 7 * l.at) × (length l.text ≤ 4096)
-    × Left l.text l.at (Writing (listed (g.N.FirstVariables.first l.names) l.unit) (statements_in l.text) l.initial.out l.from l.k l.out)
-
-abbrev pub decreases-loop-found : goal.decreases-loop-found
-decreases-loop-found g l = length l.text - l.at
+    record {
+      few : l.k ≤ 7 * offset_of l.found-iterator;
+      within : offset_of l.found-iterator ≤ length l.text;
+      short : length l.text ≤ 4096;
+      same : text_of l.found-iterator ≡ l.text;
+      left : Left l.text (offset_of l.found-iterator) (Writing (listed (g.N.FirstVariables.first l.names) l.unit) (statements_in l.text) l.initial.out l.from l.k l.out);
+    }

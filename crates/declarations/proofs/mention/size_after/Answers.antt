@@ -1,5 +1,0 @@
-use Rattle.declarations.proofs.Sizes.{size_declared}
-use Rattle.declarations.proofs.mention.size_after.Goals as goal
-
-pub returns-in-Declares : goal.returns-in-Declares
-returns-in-Declares c text es is right = size_declared text _ _ _ c.in-Declares.slots es c.in-Declares.is right
