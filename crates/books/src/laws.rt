@@ -8,7 +8,7 @@ ghost use Rattle.books.specs.Solutions.{ListIsValid, PointsInEverySolution, Alia
 ghost use Rattle.books.specs.Targets.{PointersAreWithin, TargetsRise};
 
 // What the smallest solution of a book's list says of every solution of its texts.
-pub fn solutions_of_texts() -> u8
+pub fn solutions_of_texts()
     ensures valid { ListIsValid }
     ensures points { PointsInEverySolution }
     ensures alias { AliasInEverySolution }
@@ -16,66 +16,52 @@ pub fn solutions_of_texts() -> u8
     ensures rising { TargetsRise }
     ensures known { KnownIsWithin }
     ensures pointers { PointersAreWithin }
-{
-    0
-}
+{}
 
 // What depends on the set of texts alone, not on the numbers they stand under.
-pub fn same_texts() -> u8
+pub fn same_texts()
     ensures replies { SameTextsSameReplies }
     ensures variables { SameTextsSameVariables }
     ensures more { MoreTextsMorePairs }
-{
-    0
-}
+{}
 
 // Loads and unloads leave a book, in whatever order.
-pub fn loads_and_unloads() -> u8
+pub fn loads_and_unloads()
     ensures none { NothingIsABook }
     ensures load { LoadKeepsBook }
     ensures unload { UnloadKeepsBook }
     ensures commute { LoadsCommute }
-{
-    0
-}
+{}
 
 // The table, name by name.
-pub fn tables_of_names() -> u8
+pub fn tables_of_names()
     ensures at_end { TableGrowsAtEnd }
     ensures behind { EntriesBehind }
     ensures once { TableHasNamesOnce }
     ensures short { DeclaredNamesAreShort }
     ensures any_order { SameSizesSameVariables }
-{
-    0
-}
+{}
 
 // What a text adds to the table and to the counts of a name, and takes away again.
-pub fn counts_of_names() -> u8
+pub fn counts_of_names()
     ensures load { LoadAdds }
     ensures load_table { LoadGrowsTable }
     ensures unload { UnloadTakes }
     ensures unload_table { UnloadShrinksTable }
     ensures declared { DeclaredWhileCounted }
     ensures clash { ClashByCounts }
-{
-    0
-}
+{}
 
 // Where each word of the list comes from.
-pub fn origins_of_words() -> u8
+pub fn origins_of_words()
     ensures words { ListingHasTheWords }
     ensures origins { WordsHaveOrigins }
-{
-    0
-}
+{}
 
 // Texts with known outcomes.
-pub fn known_outcomes() -> u8
+pub fn known_outcomes()
     ensures list { KnownList }
     ensures units { KnownUnits }
     ensures clashes { KnownClashes }
     ensures limits { KnownLimits }
-{
-    0
-}
+{}
