@@ -1,5 +1,5 @@
 // The earliest name of a unit text that breaks a declaration rule.
-ghost use Rattle.std.specs.Prelude.{◌≡◌, ◌<◌, ◌≤◌, [], map, length, Ok as Fine};
+ghost use Rattle.std.specs.Prelude.{◌≡◌, ◌<◌, ◌≤◌, [], map, length};
 ghost use Rattle.arrayvec.specs.ArrayVec.{array_vec_len};
 ghost use Rattle.numbering.specs.Keys.{Numbered};
 ghost use Rattle.numbering.specs.Lists.{same_list, hash_of};
@@ -79,7 +79,7 @@ impl<'a> KeyBank for Names<'a> {
 
 // Notes the mentions of a text, in order.
 fn note_all(text: &[u8], mentions: &mut Mentions)
-    requires { Fine tt ≡ outcome (read text.now) }
+    requires { Ok tt ≡ outcome (read text.now) }
     ensures few { array_vec_len mentions.new ≤ 4096 }
     ensures all { noted text.now mentions.new.items ≡ mentions_in text.now }
 {
@@ -111,7 +111,7 @@ fn first_fault(names: &Names, first: &[u16], sizes: &mut [u32]) -> Option<usize>
 
 // The offset of the earliest name that breaks a declaration rule.
 fn declaration_fault(text: &[u8], memory: &mut DeclarationMemory) -> Option<usize>
-    requires { Fine tt ≡ outcome (read text.now) }
+    requires { Ok tt ≡ outcome (read text.now) }
     ensures { result ≡ fault_in text.now }
 {
     note_all(text, &mut memory.mentions);

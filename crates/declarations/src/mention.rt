@@ -3,7 +3,7 @@ ghost use Rattle.std.specs.Prelude.{◌≡◌, ℕ, ◌+◌, ◌≤◌, true, Li
 ghost use Rattle.arrayvec.specs.ArrayVec.{array_vec_len};
 ghost use Rattle.lexemes.specs.Texts.{name_in_text};
 ghost use Rattle.grammar.specs.Meanings.{callee_in, arguments_in, call_in, value_in, item_in};
-ghost use Rattle.declarations.specs.Declarations.{Entry, size_of, name_in, offset_of, has_slot, right, entry, callee_mention, call_mentions, value_mentions, mentions as mentions_of, uses as uses_of};
+ghost use Rattle.declarations.specs.Declarations.{Entry, size_of, name_in, offset_of, has_slot, right, entry, callee_mention, call_mentions, value_mentions, mentions as mentions_of};
 ghost use Rattle.declarations.specs.Meanings.{mention_in, noted};
 
 use arrayvec::ArrayVec;

@@ -1,19 +1,12 @@
 // Reads a text's items, one at a time, by offsets.
-ghost use Rattle.std.specs.Prelude.{◌≡◌, ℕ, List};
+ghost use Rattle.std.specs.Prelude.{◌≡◌};
 ghost use Rattle.grammar.specs.Faults.{Determined};
-ghost use Rattle.grammar.specs.Parse.{is_start};
-ghost use Rattle.grammar.specs.Meanings.{state_in, statements_from, statements_of, Further, ending, Checked, verdict};
+ghost use Rattle.grammar.specs.Meanings.{statements_from, statements_of, Further, ending, Checked, verdict};
 
 use crate::state::{Found, State, Step};
 use crate::step::stepped;
 use lexemes::lexer::{next_token, skip_blanks};
 use lexemes::location::{Location, locate};
-
-fn is_start(state: State) -> bool
-    ensures { (text : List ℕ) → result ≡ is_start (state_in text state) }
-{
-    matches!(state, State::Start)
-}
 
 // The next item from `at` on, none at the text's end, or the offset of the fault.
 pub fn next_item(text: &[u8], at: usize) -> Result<Option<Found>, usize>
@@ -38,10 +31,9 @@ pub fn next_item(text: &[u8], at: usize) -> Result<Option<Found>, usize>
         }
         from = token.end;
     }
-    if is_start(state) {
-        Ok(None)
-    } else {
-        Err(text.len())
+    match state {
+        State::Start => Ok(None),
+        _ => Err(text.len()),
     }
 }
 

@@ -2,7 +2,7 @@
 ghost use Rattle.std.specs.Prelude.{◌≡◌, ℕ, List};
 ghost use Rattle.lexemes.specs.Texts.{terminal, name_in_text};
 ghost use Rattle.grammar.specs.Meanings.{role_in, place_in, step_in, state_in, target_in, callee_in, item_in, arguments_in};
-ghost use Rattle.grammar.specs.Automaton.{is_sign, is_that_word, variable_of, function_of, counted, placed, addressed, start, external, named, dotted, valued, called, on_sign, fault, call_item, opening, follow_arguments, follow, step};
+ghost use Rattle.grammar.specs.Automaton.{is_sign, variable_of, function_of, counted, placed, addressed, start, external, named, dotted, valued, called, on_sign, fault, call_item, opening, follow_arguments, follow, step};
 
 use crate::item::{Arguments, Call, Callee, Item, Linkage, Place, Slot, Value};
 use crate::state::{Role, State, Step};
@@ -21,10 +21,7 @@ fn opening(role: Role, name: Span) -> Option<Step>
     let target = match role {
         Role::Target => None,
         Role::Copied(place) => Some(place),
-        Role::Stored | Role::Source(_) | Role::Loaded(_) | Role::Pointer(_) | Role::Argument(..) =>
-            {
-                return None;
-            }
+        _ => return None,
     };
     Some(Step::More(State::Called(target, Callee::Direct(name))))
 }
@@ -62,36 +59,24 @@ fn follow_arguments(
 fn follow(role: Role, place: Place, lexeme: Lexeme) -> Option<Step>
     ensures { (text : List ℕ) → step_in text result ≡ follow (role_in text role) (place_in text place) (terminal text lexeme) }
 {
-    match role {
-        Role::Target => on_sign(lexeme, Sign::Equals, Step::More(State::Valued(place))),
-        Role::Stored => on_sign(
-            lexeme,
-            Sign::Equals,
-            Step::More(State::Placed(Role::Source(place))),
-        ),
-        Role::Source(to) => on_sign(lexeme, Sign::Semicolon, Step::Done(Item::Store(to, place))),
-        Role::Copied(to) => on_sign(
-            lexeme,
+    let (sign, step) = match role {
+        Role::Target => (Sign::Equals, Step::More(State::Valued(place))),
+        Role::Stored => (Sign::Equals, Step::More(State::Placed(Role::Source(place)))),
+        Role::Source(to) => (Sign::Semicolon, Step::Done(Item::Store(to, place))),
+        Role::Copied(to) => (
             Sign::Semicolon,
             Step::Done(Item::Assign(to, Value::Copy(place))),
         ),
-        Role::Loaded(to) => on_sign(
-            lexeme,
+        Role::Loaded(to) => (
             Sign::Semicolon,
             Step::Done(Item::Assign(to, Value::Load(place))),
         ),
-        Role::Pointer(target) => on_sign(
-            lexeme,
-            Sign::Close,
-            Step::More(State::Closed(target, place)),
-        ),
-        Role::Argument(target, callee, arguments) => follow_arguments(
-            target,
-            callee,
-            arguments.push(place)?,
-            lexeme,
-        ),
-    }
+        Role::Pointer(target) => (Sign::Close, Step::More(State::Closed(target, place))),
+        Role::Argument(target, callee, arguments) => {
+            return follow_arguments(target, callee, arguments.push(place)?, lexeme);
+        }
+    };
+    on_sign(lexeme, sign, step)
 }
 
 // A step that only this sign allows.
