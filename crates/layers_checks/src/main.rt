@@ -127,18 +127,6 @@ fn show_layer<M: Merge, E: Engine>(
     show_handed(rt, engine.handed())
 }
 
-// A pile that is made for this alone. Engines are large, and so are the frames that hold them.
-fn show_pile<M: Merge + Drop, E: Engine + Drop, F: Fn() -> io::Result<Merging<M, E>>>(
-    rt: &impl Print,
-    pile: &str,
-    make: F,
-    case: Case<'_>,
-) -> io::Result<()>
-    requires { F.IsAlwaysCallable make }
-{
-    show_layer(rt, pile, &mut make()?, case)
-}
-
 // Fresh engines of a kind: one plain, and the others under one layer or two, in both orders.
 fn show_piles<E: Engine + Drop, F: Fn() -> io::Result<E>>(
     rt: &impl Print,
@@ -150,12 +138,12 @@ fn show_piles<E: Engine + Drop, F: Fn() -> io::Result<E>>(
 {
     println!(rt; " {kind}")?;
     show(rt, "plain", &mut make()?, case)?;
-    let hvn = || Ok(Merging::new(Hvn::new(), make()?));
-    let hu = || Ok(Merging::new(Hu::new(), make()?));
-    show_pile(rt, "hvn", hvn, case)?;
-    show_pile(rt, "hu", hu, case)?;
-    show_pile(rt, "hu+hvn", || Ok(Merging::new(Hu::new(), hvn()?)), case)?;
-    show_pile(rt, "hvn+hu", || Ok(Merging::new(Hvn::new(), hu()?)), case)
+    show_layer(rt, "hvn", &mut Merging::new(Hvn::new(), make()?), case)?;
+    show_layer(rt, "hu", &mut Merging::new(Hu::new(), make()?), case)?;
+    let hvn = Merging::new(Hvn::new(), make()?);
+    show_layer(rt, "hu+hvn", &mut Merging::new(Hu::new(), hvn), case)?;
+    let hu = Merging::new(Hu::new(), make()?);
+    show_layer(rt, "hvn+hu", &mut Merging::new(Hvn::new(), hu), case)
 }
 
 fn every_pile(rt: &impl Print, heap: Global, case: Case<'_>) -> io::Result<()> {
