@@ -88,7 +88,7 @@ answers_by b lawful q r is = go b.settled refl is
 
 once_settled : (texts : List (List ℕ)) (q : Question) (r : Reply) (x : Bool) → x ≡ true → MatchBool x (QuestionSays texts q r) (r ≡ Err NotSettled) → QuestionSays texts q r
 once_settled texts q r true e says = says
-once_settled texts q r false e says = absurd (let z : ◌≡◌ {A = ℕ} 0 1 = cc e in omega arith)
+once_settled texts q r false e says = cc e
 
 -- two settled books with the same texts answer a question alike
 module _ (b c : Book) (one : Lawful (texts_of b)) (other : Lawful (texts_of c)) (b_settled : b.settled ≡ true) (c_settled : c.settled ≡ true) (same : SameTexts b.units c.units) where

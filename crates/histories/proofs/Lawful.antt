@@ -19,7 +19,7 @@ use Rattle.host_analyser.specs.Books.{Book, new_book, texts_of, book_list, unset
 use Rattle.histories.specs.Books.{next_book, book_from}
 
 none_some : {X : Type 0} {x : X} {P : Type 0} → ◌≡◌ {A = Option X} (Some x) None → P
-none_some e = absurd (let z : ◌≡◌ {A = ℕ} 0 1 = cc e in omega arith)
+none_some e = cc e
 
 -- where nothing refuses, no reason applies
 all_none : (o : Option UnitRefusal) (os : List (Option UnitRefusal)) → earliest (o ∷ os) ≡ None → (o ≡ None) × (earliest os ≡ None)
@@ -32,7 +32,7 @@ not_if false f e = refl
 
 free_slot : (o : Option (List ℕ)) → is_some o ≡ false → o ≡ None
 free_slot None e = refl
-free_slot (Some t) e = absurd (let z : ◌≡◌ {A = ℕ} 0 1 = cc e in omega arith)
+free_slot (Some t) e = cc e
 
 not_text : (o : Option UnitFault) → refused_text o ≡ None → o ≡ None
 not_text None e = refl

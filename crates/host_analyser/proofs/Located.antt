@@ -1,5 +1,5 @@
 -- Places and names of a settled analyser are variables and objects of its engine's list.
-use Rattle.std.proofs.Common.{◌≡◌, ℕ, ◌<◌, Bool, true, cond, ◌&&◌, List, Some, None, Ok, Err, Option, Result, sym, refl, ap, ◌∙◌, subst, arith}
+use Rattle.std.proofs.Common.{◌≡◌, ℕ, ◌<◌, Bool, true, cond, ◌&&◌, List, Some, None, Ok, Err, Option, Result, sym, refl, ap, ◌∙◌, subst}
 use Rattle.constraints.specs.Constraint.{length_of, var_count}
 use Rattle.constraints.specs.Finite.{any}
 use Rattle.constraints.specs.Least.{least}
@@ -89,8 +89,8 @@ module _ (b : Book) (m : Meaning) (holds : m.system ≡ book_list b) (settled : 
         → (v x : ℕ) → Some v ≡ cell_number b.units o → Some x ≡ object_number b.units k → (r : Bool)
         → (AnswersFor m v → 0 < length_of m.system.blocks x → r ≡ least m.system v x)
         → ◌≡◌ {A = Result Bool Refusal} (Ok r) (asked NoPlace o (λ c. asked Unknown k (λ n. Ok (has_object (texts_of b) c n))))
-    points_known None o_in k k_in v x e f r says = absurd (let z : ◌≡◌ {A = ℕ} 0 1 = cc e in omega arith)
-    points_known (Some c) o_in None k_in v x e f r says = absurd (let z : ◌≡◌ {A = ℕ} 0 1 = cc f in omega arith)
+    points_known None o_in k k_in v x e f r says = cc e
+    points_known (Some c) o_in None k_in v x e f r says = cc f
     points_known (Some c) o_in (Some n) k_in v x e f r says =
         let at_v : v ≡ number (table (texts_of b)) c = cc e in
         let at_x : x ≡ number (table (texts_of b)) (slot n 0) = cc f in
@@ -110,8 +110,8 @@ module _ (b : Book) (m : Meaning) (holds : m.system ≡ book_list b) (settled : 
         → (v w : ℕ) → Some v ≡ cell_number b.units o → Some w ≡ cell_number b.units k → (r : Bool)
         → (AnswersFor m v → AnswersFor m w → r ≡ any 256 (λ x. least m.system v x && least m.system w x))
         → ◌≡◌ {A = Result Bool Refusal} (Ok r) (asked NoPlace o (λ c. asked Unknown k (λ d. Ok (shares (texts_of b) c d))))
-    alias_known None k o_in k_in v w e f r says = absurd (let z : ◌≡◌ {A = ℕ} 0 1 = cc e in omega arith)
-    alias_known (Some c) None o_in k_in v w e f r says = absurd (let z : ◌≡◌ {A = ℕ} 0 1 = cc f in omega arith)
+    alias_known None k o_in k_in v w e f r says = cc e
+    alias_known (Some c) None o_in k_in v w e f r says = cc f
     alias_known (Some c) (Some d) o_in k_in v w e f r says =
         let at_v : v ≡ number (table (texts_of b)) c = cc e in
         let at_w : w ≡ number (table (texts_of b)) d = cc f in

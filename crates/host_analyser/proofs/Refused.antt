@@ -1,5 +1,5 @@
 -- A refused load or unload leaves the analyser as it stood.
-use Rattle.std.proofs.Common.{◌≡◌, ℕ, Bool, List, map, set, Some, None, Err, Option, Result, sym, ap, ◌∙◌, subst, arith}
+use Rattle.std.proofs.Common.{◌≡◌, ℕ, Bool, List, map, set, Some, None, Err, Option, Result, sym, ap, ◌∙◌, subst}
 use Rattle.engine.specs.Meanings.{Meaning}
 use Rattle.books.specs.Books.{standing, list_of, table, Book as Lawful}
 use Rattle.standing.specs.declared.list.UnitList.{UnitList}
@@ -13,7 +13,7 @@ use Rattle.host_analyser.specs.Books.{Book, unsettled, load_book, unload_book}
 use Rattle.host_analyser.specs.InStep.{SettledRight}
 
 pub refused_reply : (o : Option UnitRefusal) (f : UnitRefusal) → ◌≡◌ {A = Result (Unit {0}) UnitRefusal} (Err f) (done_or o) → o ≡ Some f
-refused_reply None f e = absurd (let z : ◌≡◌ {A = ℕ} 0 1 = cc e in omega arith)
+refused_reply None f e = cc e
 refused_reply (Some g) f e = cc e
 
 pub load_refused : (old new : StandingUnits) (u : ℕ) (t : List ℕ) (f : UnitRefusal) → load_refusal (units_of old) u t ≡ Some f

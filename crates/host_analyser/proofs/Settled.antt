@@ -1,5 +1,5 @@
 -- What a settle that fails for room says, and what it leaves.
-use Rattle.std.proofs.Common.{◌≡◌, ℕ, ◌<◌, true, false, cond, List, Ok, Err, MatchBool, Result, sym, refl, ap, ◌∙◌, subst, subst₂, ⊎_elim, arith}
+use Rattle.std.proofs.Common.{◌≡◌, ◌<◌, true, false, cond, List, Ok, Err, MatchBool, Result, sym, refl, ap, ◌∙◌, subst, subst₂, ⊎_elim}
 use Rattle.std.proofs.lemmas.Bool.{cases_lt}
 use Rattle.constraints.specs.Constraint.{System}
 use Rattle.constraints.specs.Rows.{total}
@@ -24,7 +24,7 @@ module _ (rule : Rule) (b : Book) (lawful : Lawful (texts_of b)) where
   crowded : Roomy rule → rule.fits (book_list b) ≡ false → rule.room < total (least (book_list b))
   crowded roomy unfit =
       ⊎_elim (λ lt. lt)
-      (λ le. absurd (let z : ◌≡◌ {A = ℕ} 0 1 = cc (unfit, roomy (book_list b) (list_valid (texts_of b) lawful) le) in omega arith))
+      (λ le. cc (unfit, roomy (book_list b) (list_valid (texts_of b) lawful) le))
       (cases_lt rule.room (total (least (book_list b))))
 
   pub out_of_room : Roomy rule → rule.fits (book_list b) ≡ false → (o : Overflow) → Overflows rule (book_list b) o → (f : RoomFault)

@@ -56,21 +56,21 @@ tabled b lawful m holds list listed owners owned =
 
 -- without a refusal there is a pointer
 no_call : (o : Option Cell) → refused_if (not (is_some o)) NoSuchCall ≡ None → (c : Cell) × (o ≡ Some c)
-no_call None e = absurd (let z : ◌≡◌ {A = ℕ} 0 1 = cc e in omega arith)
+no_call None e = cc e
 no_call (Some c) e = (c, refl)
 
 last_of : (a b c : Option UnitRefusal) → earliest (a ∷ b ∷ c ∷ []) ≡ None → c ≡ None
 last_of None None None e = refl
 last_of None None (Some f) e = e
-last_of None (Some f) c e = absurd (let z : ◌≡◌ {A = ℕ} 0 1 = cc e in omega arith)
-last_of (Some f) b c e = absurd (let z : ◌≡◌ {A = ℕ} 0 1 = cc e in omega arith)
+last_of None (Some f) c e = cc e
+last_of (Some f) b c e = cc e
 
 pub has_pointer : (units : Units) (u i : ℕ) → call_refusal units u i ≡ None → (c : Cell) × (call_pointer units u i ≡ Some c)
 unfolding call_refusal
 has_pointer units u i e = no_call (call_pointer units u i) (last_of (refused_if (ltb 7 u) NoSuchUnit) (refused_if (not (stands units u)) NothingStands) (refused_if (not (is_some (call_pointer units u i))) NoSuchCall) e)
 
 pointed : (units : Units) (texts : List (List ℕ)) (u i : ℕ) (c : Cell) → standing units ≡ texts → Lawful texts → (o : Option (List ℕ)) → get_or units u None ≡ o → pointer_in o i ≡ Some c → Within (table texts) c
-pointed units texts u i c are lawful None e p = absurd (let z : ◌≡◌ {A = ℕ} 0 1 = cc p in omega arith)
+pointed units texts u i c are lawful None e p = cc p
 pointed units texts u i c are lawful (Some t) e p = pointers_within texts lawful t (subst (λ ts. Rattle.books.specs.Members.◌∈◌ t ts) are (stood_there units u t e)) i c p
 
 pub pointer_within : (units : Units) → Lawful (standing units) → (u i : ℕ) (c : Cell) → call_pointer units u i ≡ Some c → Within (table (standing units)) c
@@ -83,8 +83,8 @@ found_pointer units u i v e = go (call_refusal units u i) refl (call_pointer uni
   where
     go : (o : Option UnitRefusal) → call_refusal units u i ≡ o → (p : Option Cell) → call_pointer units u i ≡ p → ◌≡◌ {A = Result ℕ UnitRefusal} (Ok v) (pointer_or o (cell_number units p))
         → (call_refusal units u i ≡ None) × (c : Cell) × (call_pointer units u i ≡ Some c) × (v ≡ number (table (standing units)) c)
-    go (Some f) r p q e = absurd (let z : ◌≡◌ {A = ℕ} 0 1 = cc e in omega arith)
-    go None r None q e = absurd (let z : ◌≡◌ {A = ℕ} 0 1 = cc e in omega arith)
+    go (Some f) r p q e = cc e
+    go None r None q e = cc e
     go None r (Some c) q e = (r, c, q, cc e)
 
 pub refused_pointer : (units : Units) (u i : ℕ) (f : UnitRefusal) → Err f ≡ pointer_reply units u i → call_refusal units u i ≡ Some f
@@ -93,8 +93,8 @@ refused_pointer units u i f e = go (call_refusal units u i) refl (call_pointer u
     go : (o : Option UnitRefusal) → call_refusal units u i ≡ o → (p : Option Cell) → call_pointer units u i ≡ p → ◌≡◌ {A = Result ℕ UnitRefusal} (Err f) (pointer_or o (cell_number units p))
         → call_refusal units u i ≡ Some f
     go (Some g) r p q e = r ∙ ap Some (cc e)
-    go None r None q e = let (c, is) = has_pointer units u i r in absurd (let z : ◌≡◌ {A = ℕ} 0 1 = cc (q, is) in omega arith)
-    go None r (Some c) q e = absurd (let z : ◌≡◌ {A = ℕ} 0 1 = cc e in omega arith)
+    go None r None q e = let (c, is) = has_pointer units u i r in cc (q, is)
+    go None r (Some c) q e = cc e
 
 set_at : (pre : List ℕ) (r b : ℕ) (rest : List ℕ) → set (pre ++ r ∷ rest) (length pre) b ≡ (pre ++ b ∷ []) ++ rest
 set_at [] r b rest = refl

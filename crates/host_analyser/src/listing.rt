@@ -26,6 +26,7 @@ fn put(out: &mut [u8], at: usize, byte: u8)
 }
 
 // Writes a name and a line feed from position n on, as far as there are places; the position after it.
+// Stays: buffer and position are apart, since the position counts on past the buffer's end.
 fn put_line(out: &mut [u8], n: usize, name: &[u8]) -> usize
     requires { n ≤ 6400 }
     ensures written { length name.now ≤ 24 → out.new ≡ overlaid out.old n (name_line name.now) }
@@ -75,7 +76,7 @@ pub(crate) fn list_targets<E: Engine>(
     ensures count { (es : List Entry) → Tabled es (E.meaning engine.old).system (units_of units.now) (list_in list.now) (owners_in list.now) → AnswersFor (E.meaning engine.old) v → result ≡ length (listing_of es (least (E.meaning engine.old).system v)) }
     ensures stays { E.meaning engine.new ≡ E.meaning engine.old }
 {
-    let count = list.blocks().len().min(256);
+    let count = list.blocks().len().min(256); // no list has more
     let mut first = 0;
     let mut n = 0;
     for (size, owner) in list.blocks()[..count].iter().zip(list.owners()) {

@@ -28,6 +28,7 @@ fn located(units: &StandingUnits, list: &UnitList, fault: EngineFault) -> RoomFa
         EngineFault::NoRoom(overflow) => list.origin(usize::from(overflow.position)),
         _ => None,
     };
+    // Stays: every refusal for room carries a unit and a line; an engine's fault names a word, so zeros never come.
     let (unit, line) = origin.map_or((0, 0), |word| (word.unit, units.line(word.unit, word.at)));
     RoomFault { unit, line, fault }
 }
