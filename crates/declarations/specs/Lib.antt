@@ -1,3 +1,4 @@
 pub mod Declarations
+pub mod Listed
 pub mod Meanings
 pub mod Verdicts

@@ -1,25 +1,26 @@
 // The earliest name of a unit text that breaks a declaration rule.
 ghost use Rattle.std.specs.Prelude.{◌≡◌, ◌<◌, ◌≤◌, [], map, length};
-ghost use Rattle.arrayvec.specs.ArrayVec.{array_vec_len};
 ghost use Rattle.numbering.specs.Keys.{Numbered};
 ghost use Rattle.numbering.specs.Lists.{same_list, hash_of};
 ghost use Rattle.numbering.proofs.Lists.{lists_equivalence, lists_alike};
 ghost use Rattle.grammar.specs.Units.{read, outcome};
 ghost use Rattle.declarations.specs.Declarations.{mentions_in, fault_after, fault_in};
+ghost use Rattle.declarations.specs.Listed.{listed};
 ghost use Rattle.declarations.specs.Meanings.{noted, key, mention_in};
 ghost use Rattle.declarations.specs.Verdicts.{unit_verdict, KnownVerdicts};
 
-use crate::mention::{Mention, Mentions, note_item};
-use arrayvec::ArrayVec;
+use crate::mention::{Mention, note_item};
+use crate::mentions::Mentions;
 use grammar::unit::{Items, UnitFault, check_text};
 use lexemes::lexeme::bytes_of;
 use lexemes::location::locate;
 use numbering::{KeyBank, hash_items, number};
 
 // Memory for a check, used again by the next.
-#[derive(Drop)]
+#[derive(Clone, Copy)]
 pub struct DeclarationMemory {
     mentions: Mentions,
+    // Stays: memory to work in, written as slices by position.
     first: [u16; 4104],
     links: [Option<u16>; 4104],
     // Stays: a block's length of 0 is the rules' own word for a name that is not declared.
@@ -29,7 +30,7 @@ pub struct DeclarationMemory {
 impl DeclarationMemory {
     pub fn new() -> Self {
         DeclarationMemory {
-            mentions: ArrayVec::new(),
+            mentions: Mentions::new(),
             first: [0; 4104],
             links: [None; 4104],
             sizes: [0; 4104],
@@ -80,8 +81,8 @@ impl<'a> KeyBank for Names<'a> {
 // Notes the mentions of a text, in order.
 fn note_all(text: &[u8], mentions: &mut Mentions)
     requires { Ok tt ≡ outcome (read text.now) }
-    ensures few { array_vec_len mentions.new ≤ 4096 }
-    ensures all { noted text.now mentions.new.items ≡ mentions_in text.now }
+    ensures few { length (listed mentions.new) ≤ 4096 }
+    ensures all { noted text.now (listed mentions.new) ≡ mentions_in text.now }
 {
     mentions.clear();
     for found in Items::new(text, 0) {

@@ -4,3 +4,4 @@
 pub mod check;
 pub mod cursor;
 pub mod mention;
+mod mentions;

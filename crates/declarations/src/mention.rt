@@ -1,12 +1,12 @@
 // The names of a unit text, in order, each with what it is used for.
-ghost use Rattle.std.specs.Prelude.{◌≡◌, ℕ, ◌+◌, ◌≤◌, true, List, [], ◌∷◌, ◌++◌, map, length};
-ghost use Rattle.arrayvec.specs.ArrayVec.{array_vec_len};
+ghost use Rattle.std.specs.Prelude.{◌≡◌, ℕ, ◌+◌, ◌≤◌, true, List, ◌++◌, map, length};
 ghost use Rattle.lexemes.specs.Texts.{name_in_text};
 ghost use Rattle.grammar.specs.Meanings.{callee_in, arguments_in, call_in, value_in, item_in};
 ghost use Rattle.declarations.specs.Declarations.{Entry, size_of, name_in, offset_of, has_slot, right, entry, callee_mention, call_mentions, value_mentions, mentions as mentions_of};
+ghost use Rattle.declarations.specs.Listed.{listed};
 ghost use Rattle.declarations.specs.Meanings.{mention_in, noted};
 
-use arrayvec::ArrayVec;
+use crate::mentions::Mentions;
 use grammar::item::{Call, Callee, Item, Linkage, Place, Slot, Value};
 use lexemes::lexeme::Span;
 
@@ -17,16 +17,6 @@ pub enum Mention {
     Uses(Place),
     Calls(Span, u16),
 }
-
-// What unused memory holds.
-impl Default for Mention {
-    fn default() -> Self {
-        Mention::Calls(Span { from: 0, to: 0 }, 0)
-    }
-}
-
-// The mentions of a text: one of 4,096 bytes has no more, and an item up to 8.
-pub(crate) type Mentions = ArrayVec<Mention, 4104>;
 
 impl Mention {
     pub(crate) fn name(self) -> Span
@@ -87,9 +77,9 @@ fn callee_mention(call: Call) -> Mention
 }
 
 fn note_call(mentions: &mut Mentions, call: Call)
-    requires { array_vec_len mentions.old + 7 ≤ 4104 }
-    ensures few { array_vec_len mentions.new ≤ array_vec_len mentions.old + 7 }
-    ensures all { (text : List ℕ) → noted text mentions.new.items ≡ noted text mentions.old.items ++ call_mentions (call_in text call) }
+    requires { length (listed mentions.old) + 7 ≤ 4104 }
+    ensures few { length (listed mentions.new) ≤ length (listed mentions.old) + 7 }
+    ensures all { (text : List ℕ) → noted text (listed mentions.new) ≡ noted text (listed mentions.old) ++ call_mentions (call_in text call) }
 {
     mentions.push(callee_mention(call));
     for argument in call.arguments.as_slice() {
@@ -98,9 +88,9 @@ fn note_call(mentions: &mut Mentions, call: Call)
 }
 
 fn note_value(mentions: &mut Mentions, value: Value)
-    requires { array_vec_len mentions.old + 7 ≤ 4104 }
-    ensures few { array_vec_len mentions.new ≤ array_vec_len mentions.old + 7 }
-    ensures all { (text : List ℕ) → noted text mentions.new.items ≡ noted text mentions.old.items ++ value_mentions (value_in text value) }
+    requires { length (listed mentions.old) + 7 ≤ 4104 }
+    ensures few { length (listed mentions.new) ≤ length (listed mentions.old) + 7 }
+    ensures all { (text : List ℕ) → noted text (listed mentions.new) ≡ noted text (listed mentions.old) ++ value_mentions (value_in text value) }
 {
     match value {
         Value::Address(base) => {
@@ -114,9 +104,9 @@ fn note_value(mentions: &mut Mentions, value: Value)
 
 // Puts the mentions of an item behind those that are there.
 pub(crate) fn note_item(mentions: &mut Mentions, item: Item)
-    requires { array_vec_len mentions.old + 8 ≤ 4104 }
-    ensures few { array_vec_len mentions.new ≤ array_vec_len mentions.old + 8 }
-    ensures all { (text : List ℕ) → noted text mentions.new.items ≡ noted text mentions.old.items ++ mentions_of (item_in text item) }
+    requires { length (listed mentions.old) + 8 ≤ 4104 }
+    ensures few { length (listed mentions.new) ≤ length (listed mentions.old) + 8 }
+    ensures all { (text : List ℕ) → noted text (listed mentions.new) ≡ noted text (listed mentions.old) ++ mentions_of (item_in text item) }
 {
     match item {
         Item::Variable(linkage, name) => mentions.push(Mention::Declares(linkage, name, 0)),

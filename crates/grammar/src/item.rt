@@ -33,6 +33,7 @@ pub enum Callee {
 // Up to six places.
 #[derive(Clone, Copy)]
 pub struct Arguments {
+    // Stays: an array with its count, since items are Copy and a vector of fixed capacity is not.
     places: [Place; 6],
     count: usize,
     ghost few: { count ≤ 6 },

@@ -19,7 +19,7 @@ pub fn next_item(text: &[u8], at: usize) -> Result<Option<Found>, usize>
     }
     let mut state = State::Start;
     let mut from = start;
-    // Stays: the loop ends at a fault or at an item, and a token iterator would need a state for either end.
+    // Stays: a token iterator would be a type for this one loop, and its items results that the loop opens all the same.
     while let Some(token) = next_token(text, from)? {
         match stepped(text, state, token.lexeme).ok_or(token.at)? {
             Step::More(next) => state = next,

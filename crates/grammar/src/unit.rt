@@ -21,6 +21,7 @@ impl UnitFault {
     pub fn number(self) -> u8
         ensures { result ≡ (refusal self).number }
     {
+        // Stays: the numbers are the hosts'.
         match self {
             UnitFault::TooLong => 11,
             UnitFault::Grammar(_) => 12,

@@ -5,6 +5,7 @@ use crate::unit::{LONGEST_TEXT, UnitFault};
 
 #[derive(Clone, Copy)]
 pub struct UnitText {
+    // Stays: an array with its length, since a held text is Copy and a vector of fixed capacity is not.
     bytes: [u8; LONGEST_TEXT],
     len: usize,
     ghost within: { len ≤ 4096 },

@@ -41,7 +41,7 @@ const CLASSES: &[Class; 256] = &[
 pub fn class_of(b: u8) -> Class
     ensures { result ≡ class_of b }
 {
-    CLASSES[b as usize]
+    CLASSES[usize::from(b)]
 }
 
 pub fn is_blank(b: u8) -> bool

@@ -1,5 +1,6 @@
 use Rattle.std.proofs.Common.{ap, ◌∙◌, arith}
 use Rattle.grammar.specs.Items.{text_of, offset_of}
+use Rattle.declarations.specs.Listed.{listed}
 use Rattle.declarations.proofs.Checking.{noting_none, noting_few, noting_more, noting_all}
 use Rattle.declarations.proofs.check.note_all.Goals as goal
 
@@ -12,7 +13,7 @@ loop-found-init c =
 
 pub note_item-requires : goal.note_item-requires
 note_item-requires c =
-    omega (arith, noting_few c.args.text.now c.requires c.loop-found.mentions.items c.loop-found.found-iterator c.next.new.self c.loop-found.invariant.same c.loop-found.invariant.noting)
+    omega (arith, noting_few c.args.text.now c.requires (listed c.loop-found.mentions) c.loop-found.found-iterator c.next.new.self c.loop-found.invariant.same c.loop-found.invariant.noting)
 
 pub loop-found-preserved : goal.loop-found-preserved
 loop-found-preserved c =
@@ -20,7 +21,7 @@ loop-found-preserved c =
     record {
       same = c.in-Some.ensures.steps.0 ∙ c.loop-found.invariant.same;
       noting =
-          noting_more text c.requires c.loop-found.mentions.items c.loop-found.found-iterator c.next.new.self c.loop-found.invariant.same c.loop-found.invariant.noting c.in-Some.found _
+          noting_more text c.requires (listed c.loop-found.mentions) c.loop-found.found-iterator c.next.new.self c.loop-found.invariant.same c.loop-found.invariant.noting c.in-Some.found _
           c.in-Some.ensures.steps (c.note_item.ensures.all text);
     }
 
@@ -28,6 +29,6 @@ pub returns : goal.returns
 returns c =
     let text = c.args.text.now in
     record {
-      few = noting_few text c.requires c.loop-found.mentions.items c.loop-found.found-iterator c.next.new.self c.loop-found.invariant.same c.loop-found.invariant.noting;
-      all = noting_all text c.requires c.loop-found.mentions.items c.loop-found.found-iterator c.next.new.self c.loop-found.invariant.same c.loop-found.invariant.noting c.in-None.ensures.steps;
+      few = noting_few text c.requires (listed c.loop-found.mentions) c.loop-found.found-iterator c.next.new.self c.loop-found.invariant.same c.loop-found.invariant.noting;
+      all = noting_all text c.requires (listed c.loop-found.mentions) c.loop-found.found-iterator c.next.new.self c.loop-found.invariant.same c.loop-found.invariant.noting c.in-None.ensures.steps;
     }

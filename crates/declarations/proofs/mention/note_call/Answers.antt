@@ -5,6 +5,7 @@ use Rattle.grammar.specs.Grammar.{Place}
 use Rattle.grammar.specs.Meanings.{place_in}
 use Rattle.declarations.specs.Declarations.{Mention, uses}
 use Rattle.declarations.specs.Meanings.{noted}
+use Rattle.declarations.specs.Listed.{listed}
 use Rattle.declarations.proofs.Noting.{noted_push, place_more, mentions_after}
 use Rattle.declarations.proofs.mention.note_call.Goals as goal
 
@@ -18,7 +19,7 @@ loop-argument-preserved c =
     record {
       long = omega (arith, c.push-in-loop-argument.ensures.len, c.loop-argument.invariant.long);
       all = λ text.
-          place_more text (noted text c.push.new.self.items) (noted text c.loop-argument.mentions.items) (noted text c.push-in-loop-argument.new.self.items) places i _ c.loop-argument-test.true
+          place_more text (noted text (listed c.push.new.self)) (noted text (listed c.loop-argument.mentions)) (noted text (listed c.push-in-loop-argument.new.self)) places i _ c.loop-argument-test.true
           (c.loop-argument.invariant.all text) (ap (noted text) c.push-in-loop-argument.ensures.items ∙ noted_push text _ _);
     }
 
@@ -29,10 +30,10 @@ returns c =
     record {
       few = omega (arith, c.loop-argument.invariant.long, c.push.ensures.len, c.loop-argument.auto.argument-index-end, c.as_slice-argument-items.ensures.few);
       all = λ text.
-          mentions_after (noted text c.args.mentions.now.items) (noted text c.push.new.self.items) (noted text c.loop-argument.mentions.items) _ _
-          (ap (noted text) c.push.ensures.items ∙ noted_push text _ _ ∙ ap (λ (m : Mention). noted text c.args.mentions.now.items ++ m ∷ []) (c.callee_mention.ensures text))
+          mentions_after (noted text (listed c.args.mentions.now)) (noted text (listed c.push.new.self)) (noted text (listed c.loop-argument.mentions)) _ _
+          (ap (noted text) c.push.ensures.items ∙ noted_push text _ _ ∙ ap (λ (m : Mention). noted text (listed c.args.mentions.now) ++ m ∷ []) (c.callee_mention.ensures text))
           (c.loop-argument.invariant.all text
-          ∙ ap (λ (ps : List Place). noted text c.push.new.self.items ++ map uses ps)
+          ∙ ap (λ (ps : List Place). noted text (listed c.push.new.self) ++ map uses ps)
           (let past : length (map (place_in text) places) ≡ length places = length-map places (place_in text) in
           take_all i (map (place_in text) places) (omega (arith, past, c.loop-argument-test.false)) ∙ ap (λ (ps : List PlaceIn). map (place_in text) ps) c.as_slice-argument-items.ensures.all));
     }

@@ -6,4 +6,4 @@ use Rattle.lexemes.specs.declared.class.Class.TheVariants.{Blank}
 use Rattle.lexemes.proofs.class.class_of.Goals as goal
 
 pub returns : goal.returns
-returns c = get_or-map-range_with_len class_of 0 256 c.args.b c.args.b Blank (omega (arith, c.ranges.b)) (omega arith)
+returns c = rw c.from.ensures (get_or-map-range_with_len class_of 0 256 c.args.b c.args.b Blank (omega (arith, c.ranges.b)) (omega arith))
