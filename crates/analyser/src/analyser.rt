@@ -14,6 +14,7 @@ const UNITS: usize = 8;
 #[derive(Drop)]
 pub struct Analyser {
     texts: [Option<UnitText>; UNITS],
+    // Stays: a flag beside the texts, since they stand whether settled or not.
     settled: bool,
     memory: DeclarationMemory,
 }

@@ -14,6 +14,7 @@ pub enum Refusal {
     NothingStands,
 }
 
+// Stays: clauses name the refusal that a `?` makes, so its `From` is written by hand.
 impl From<UnitFault> for Refusal {
     ghost from_gives = { λ f r. r ≡ Text f };
 
@@ -24,15 +25,14 @@ impl From<UnitFault> for Refusal {
 
 impl Refusal {
     // The number by which hosts know this refusal.
+    // Stays: the numbers are the hosts'.
     pub fn number(&self) -> u32
         ensures { result ≡ number_of self.now }
     {
         match *self {
             Refusal::NoSuchUnit => 9,
             Refusal::UnitStands => 10,
-            Refusal::Text(UnitFault::TooLong) => 11,
-            Refusal::Text(UnitFault::Grammar(_)) => 12,
-            Refusal::Text(UnitFault::Declaration(_)) => 13,
+            Refusal::Text(fault) => u32::from(fault.number()),
             Refusal::NothingStands => 18,
         }
     }

@@ -58,7 +58,6 @@ fn show_calls(rt: &HostRuntime, lines: &[Line<'_>], replies: &[Reply]) -> Result
     }
     let calls = replies.len();
     let answered = replies.iter().filter(|reply| reply.is_ok()).count();
-    let answered = replies.iter().filter(|reply| reply.is_ok()).count();
     let refused = replies.iter().filter(|reply| reply.is_err()).count();
     println!(rt; "")?;
     println!(rt; "{calls} calls, {answered} answered, {refused} refused")?;

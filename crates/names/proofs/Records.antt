@@ -1,5 +1,5 @@
 -- A list of records as a map from names to notes.
-use Rattle.std.proofs.Common.{◌≡◌, ℕ, zero, suc, ◌+◌, ◌<◌, ◌≤◌, Bool, true, false, cond, List, [], ◌∷◌, ◌++◌, map, length, get_or, take, set, Some, None, Option, sym, refl, ap, ◌∙◌, subst, arith}
+use Rattle.std.proofs.Common.{◌≡◌, ℕ, zero, suc, ◌+◌, ◌<◌, ◌≤◌, Bool, true, false, cond, List, [], ◌∷◌, ◌++◌, map, length, get_or, take, set, Some, None, Option, sym, refl, ap, ◌∙◌, arith}
 use mathlib.Core.Path.{fun_ext}
 use Rattle.std.specs.Str.{bytes_eq}
 use Rattle.std.proofs.lemmas.Bool.{false_from_ne_true}
@@ -128,11 +128,6 @@ updated_same rs n = record {
     kept : (m : List ℕ) (b : Bool) → (b ≡ true → n ≡ m) → note_of rs m ≡ cond b (note_of rs n) (note_of rs m)
     kept m true e = ap (note_of rs) (sym (e refl))
     kept m false e = refl
-
--- an unknown name stays unknown
-pub updated_none : (rs : List NameRecord) (n : List ℕ) → note_of rs n ≡ None → (to : Option Note → Option Note) → None ≡ to None
-    → Updated rs rs n (to (note_of rs n))
-updated_none rs n none to stays = subst (Updated rs rs n) (none ∙ stays ∙ ap to (sym none)) (updated_same rs n)
 
 -- ---- sums of weights
 

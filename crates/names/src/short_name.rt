@@ -3,7 +3,7 @@ ghost use Rattle.std.specs.Prelude.{◌≤◌};
 
 pub const LONGEST_NAME: usize = 24;
 
-// Stays: a unit's text is kept alike, of another size, in a crate that the names do not rest on.
+// Stays: beside a unit's text, since one type for both would be generic over its size for two uses, in a crate under both.
 #[derive(Clone, Copy)]
 pub struct ShortName {
     bytes: [u8; LONGEST_NAME],

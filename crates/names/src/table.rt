@@ -1,4 +1,5 @@
 // The table of names.
+ghost use Rattle.std.specs.Prelude.{◌≡◌, ◌%◌};
 ghost use Rattle.names.specs.Tables.{Sound};
 
 use crate::asked::Asked;
@@ -9,6 +10,13 @@ use numbering::{KeyBank, hash_items, lookup};
 // The name is not entered: it is empty or over 24 bytes, or all blocks would have over 256 variables.
 #[derive(Clone, Copy)]
 pub struct TableFull;
+
+// Where the last record with a hash is kept.
+fn bucket_of(hash: u32) -> usize
+    ensures { result ≡ hash % 256 }
+{
+    (hash % 256) as usize
+}
 
 // What is known of each name that standing units mention, and of those that none mentions any more, until a sweep.
 #[derive(Clone, Copy)]
@@ -54,7 +62,7 @@ impl NameTable {
             records: &self.records[..self.used],
             name,
         };
-        let bucket = (asked.hash(self.used) % 256) as usize;
+        let bucket = bucket_of(asked.hash(self.used));
         lookup(&asked, &self.links, self.heads[bucket], self.used).map(usize::from)
     }
 
@@ -91,7 +99,7 @@ impl NameTable {
         ensures { held self.new ≡ held self.old ++ last ∷ [] }
     {
         let at = self.used;
-        let bucket = (hash_items(last.name()) % 256) as usize;
+        let bucket = bucket_of(hash_items(last.name()));
         self.records[at] = last;
         self.links[at] = self.heads[bucket];
         self.heads[bucket] = Some(at as u16);

@@ -34,8 +34,8 @@ invariant_of-self c =
     let t = c.args.self.now in
     let s = is_sound t.sound in
     let r = c.args.last in
-    let b = c.hash_items.result % 256 in
-    let bucket = ap (λ h. h % 256) (hash_items_same c.name.result.now c.hash_items.result c.hash_items.ensures ∙ ap hash_of c.name.ensures) in
+    let b = c.bucket_of-bucket.result in
+    let bucket = c.bucket_of-bucket.ensures ∙ ap (λ h. h % 256) (hash_items_same c.name.result.now c.hash_items.result c.hash_items.ensures ∙ ap hash_of c.name.ensures) in
     let pushed = sound_push s r c.requires.unknown (omega (arith, s.counted, c.requires.room)) b (sym bucket) in
     let At : ℕ → Type 0 =
     λ n. Sound (set t.records t.used r) (t.used + 1) (t.variables + (n + 1)) (set t.heads b (Some t.used)) (set t.links t.used (get_or t.heads b None)) in

@@ -1,4 +1,4 @@
-use Rattle.std.proofs.Common.{◌%◌, get_or, None, sym, subst, arith}
+use Rattle.std.proofs.Common.{◌%◌, get_or, None, sym, ap, ◌∙◌, subst, arith}
 use Rattle.std.proofs.lemmas.Nat.{mod_below}
 use Rattle.numbering.specs.Keys.{Latest, Entry}
 use Rattle.names.specs.Index.{same_key, hash_key, with_asked}
@@ -15,7 +15,7 @@ lookup-requires-clause-headed c =
     let n = c.args.name.now in
     let ks = with_asked (held t) n in
     let b = hash_key ks t.used % 256 in
-    subst (λ h. Latest (Entry (same_key ks) (hash_key ks) b) t.used (get_or t.heads (h % 256) None)) (sym c.hash.ensures)
+    subst (λ h. Latest (Entry (same_key ks) (hash_key ks) b) t.used (get_or t.heads h None)) (sym (c.bucket_of-bucket.ensures ∙ ap (λ h. h % 256) c.hash.ensures))
     (asked_headed (is_sound t.sound) n b (mod_below (hash_key ks t.used) 256 (omega arith)))
 
 pub returns : goal.returns
