@@ -1,6 +1,7 @@
 -- Insertion keeps the order.
-use Rattle.std.proofs.Common.{◌≡◌, ℕ, ◌+◌, ◌-◌, ◌<◌, ◌≤◌, Bool, true, not, ◌≢◌, ◌⊎◌, List, get_or, sym, refl, ap, ◌∙◌, subst, subst₂, inl, inr, ⊎_elim, arith}
+use Rattle.std.proofs.Common.{◌≡◌, ℕ, ◌+◌, ◌-◌, ◌<◌, ◌≤◌, Bool, true, not, ◌≢◌, ◌⊎◌, List, Option, Some, None, unwrap_or, get_or, sym, refl, ap, ◌∙◌, subst, subst₂, inl, inr, ⊎_elim, arith}
 use Rattle.std.proofs.lemmas.Bool.{cases_eq, cases_lt, cases_order, and_parts, and_from, not-true, not_from_false, both_ways, cases_Bool}
+use Rattle.std.specs.Option.{MatchOption}
 use Rattle.graphs.specs.Matrix.{bit}
 use Rattle.graphs.specs.Paths.{Reaches, Closure}
 use Rattle.graphs.specs.Order.{Above, Arranged, above, FirstBelow, Inserted}
@@ -18,6 +19,15 @@ nodes_more xs xs' n p h inside i k hk =
     (λ lt. omega (arith, i.before k lt, inside k (omega arith)))
     (λ lt. omega (arith, i.after k lt (omega arith), inside (k - 1) (omega arith))))
     (cases_order k p)
+
+-- ---- the first place
+
+pub first_below : (m xs : List ℕ) (u n : ℕ) (r : Option ℕ)
+    → MatchOption r ((k : ℕ) → 0 ≤ k → k < n → above m u (get_or xs k 0) ≢ true)
+    (λ p. (0 ≤ p) × (p < n) × (above m u (get_or xs p 0) ≡ true) × ((k : ℕ) → 0 ≤ k → k < p → above m u (get_or xs k 0) ≢ true))
+    → FirstBelow m xs u n (unwrap_or r n)
+first_below m xs u n None none = record { within = omega arith; none = λ i below. none i (omega arith) below; here = λ below. absurd (omega (arith, below)) }
+first_below m xs u n (Some p) found = record { within = omega (arith, found.1); none = λ i below. found.3 i (omega arith) below; here = λ below. found.2 }
 
 -- ---- the order
 

@@ -53,6 +53,7 @@ impl<const WIDTH: usize, const WORDS: usize> BitMatrix<WIDTH, WORDS> {
         ensures { Joined WIDTH self.old.words self.new.words row.now u }
     {
         let at = WIDTH * u;
+        // Stays: under `iter_mut().zip(row)` it is left open what the joined words hold.
         for (i, word) in row.iter().enumerate() {
             self.words[at + i] |= *word;
         }

@@ -1,5 +1,5 @@
 // Reachability in graphs of up to 256 nodes, held as a bit matrix.
-ghost use Rattle.std.specs.Prelude.{◌≡◌, ℕ, ◌<◌, ◌≤◌, Bool, true, length, slice_index};
+ghost use Rattle.std.specs.Prelude.{◌≡◌, ℕ, ◌<◌, ◌≤◌, Bool, true, length, slice_index, unwrap_or};
 ghost use Rattle.graphs.specs.Paths.{Reaches, drawn, Draws, Closure, Diagonal, Spread, Through};
 ghost use Rattle.graphs.specs.Components.{Components};
 ghost use Rattle.graphs.specs.Order.{above, Arranged, FirstBelow, Inserted};
@@ -17,6 +17,7 @@ fn reflect(m: &mut Square)
 }
 
 // Joins a row to each row that has bit k.
+// Stays: `k < 256` and no `u8`, since rows are indexed by `usize` and counts of nodes go to 256.
 fn spread(m: &mut Square, row: &[u32; 8], k: usize)
     requires { k < 256 }
     ensures { Spread k row.now m.old.words m.new.words }
@@ -69,7 +70,8 @@ pub fn reachable<G: Graph>(g: &G, m: &mut Square)
     close(m);
 }
 
-// The same, of the square's words.
+// Gives each node the lowest node of its component, by the square's words.
+// Stays: beside `components`, since the items of an array parameter are known to fit and those of a field are not.
 fn number_nodes(words: &[u32; 2048], lowest: &mut [u16; 256])
     ensures { (edge : ℕ → ℕ → Bool) → Closure edge words.now → Components edge lowest.new }
 {
@@ -90,18 +92,13 @@ fn is_above(m: &Square, u: usize, v: usize) -> bool
     m.has(u, v) && !m.has(v, u)
 }
 
-// The first of the n places whose node is reached from u in another component, or n.
-fn place(m: &Square, order: &[u16; 256], u: usize, n: usize) -> usize
+// The first of the n places whose node is reached from u in another component.
+fn place(m: &Square, order: &[u16; 256], u: usize, n: usize) -> Option<usize>
     requires within { (u < 256) × (n ≤ 256) }
     requires nodes { (k : ℕ) → k < n → slice_index order.now k < 256 }
-    ensures { FirstBelow m.now.words order.now u n result }
+    ensures { FirstBelow m.now.words order.now u n (unwrap_or result n) }
 {
-    for (p, node) in order[..n].iter().enumerate() {
-        if is_above(m, u, usize::from(*node)) {
-            return p;
-        }
-    }
-    n
+    (0..n).find(|p| is_above(m, u, usize::from(order[*p])))
 }
 
 // Puts x at place p, and moves the places from p up to n.
@@ -114,12 +111,13 @@ fn insert_at(xs: &mut [u16; 256], n: usize, p: usize, x: u16)
 }
 
 // Writes the first n nodes in an order in which each comes after the nodes of other components that reach it.
+// Stays: an array and a number, since the caller holds the number for its flags too, and a vector would hold it again.
 pub fn arrange(m: &Square, order: &mut [u16; 256], n: usize)
     requires { n ≤ 256 }
     ensures { (edge : ℕ → ℕ → Bool) → Closure edge m.now.words → Arranged edge order.new n }
 {
     for u in 0..n {
-        let p = place(m, order, u, u);
+        let p = place(m, order, u, u).unwrap_or(u);
         insert_at(order, u, p, u as u16);
     }
 }

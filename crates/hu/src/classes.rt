@@ -16,6 +16,7 @@ use graphs::bits::BitMatrix;
 use layers::Merge;
 
 // Gives each variable the lowest one with an equal mark.
+// Stays: beside `classify`, since the items of an array parameter are known to fit and those of a field are not.
 fn number_marks(marks: &[u32; 20480], class: &mut [u16; 256])
     ensures { (sys : System) → Valid sys → MarkBits sys marks.now → Numbers sys (same_mark sys) class.new }
 {

@@ -33,6 +33,7 @@ impl Sources {
     }
 
     // Joins what stands at u to the mark of v, if u reaches v.
+    // Stays: `u < 256` and no `u8`, since rows are indexed by `usize` and counts of variables go to 256.
     fn join_mark(&self, marks: &mut Stand, u: usize, v: usize)
         requires from { u < 256 }
         requires to { v < 256 }

@@ -11,6 +11,7 @@ use graphs::reach::arrange;
 #[derive(Drop)]
 pub struct Flow {
     // which variables are open
+    // Stays: an array and a count, since `find_open` writes the flags as an array.
     pub flags: [bool; 256],
     // which reaches which along copies
     pub reach: Square,
@@ -35,6 +36,7 @@ impl Flow {
     }
 
     // Whether u is in the component of v.
+    // Stays: `v < 256` and no `u8`, since rows are indexed by `usize` and counts of variables go to 256.
     pub fn is_member(&self, v: usize, u: usize) -> bool
         requires of { v < 256 }
         requires who { u < 256 }
@@ -48,11 +50,6 @@ impl Flow {
         requires { v < 256 }
         ensures { MatchOption result (NoneOf self.now.count (open_in self.now.flags self.now.reach.words v)) (FirstOf self.now.count (open_in self.now.flags self.now.reach.words v)) }
     {
-        for (u, is_open) in self.flags[..self.count].iter().enumerate() {
-            if *is_open && self.is_member(v, u) {
-                return Some(u);
-            }
-        }
-        None
+        (0..self.count).find(|u| self.flags[*u] && self.is_member(v, *u))
     }
 }

@@ -18,6 +18,7 @@ use graphs::bits::BitMatrix;
 pub type Columns = BitMatrix<88, 22528>;
 
 // The first row with the columns of row k. `first` is memory to work in.
+// Stays: takes the words as an array, since the items of an array parameter are known to fit and those of a field are not.
 fn first_equal(words: &[u32; 22528], first: &mut [u16; 256], k: usize) -> u16
     requires { k < 256 }
     ensures within { result ≤ k }
@@ -41,12 +42,7 @@ impl Sets {
         requires { k < 256 }
         ensures { MatchOption result (NoneFrom self.now.rows.words k low 2816) (NextColumn self.now.rows.words k low) }
     {
-        for column in low..2816 {
-            if self.rows.has(k, column) {
-                return Some(column);
-            }
-        }
-        None
+        (low..2816).find(|column| self.rows.has(k, *column))
     }
 
     // The number of row k: of no column, of one, or of the first row with the same columns.

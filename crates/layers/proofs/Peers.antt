@@ -1,5 +1,5 @@
 -- The representative of a variable, from flags and class numbers.
-use Rattle.std.proofs.Common.{◌≡◌, ℕ, suc, ◌<◌, Bool, true, false, not, ◌&&◌, T, List, Option, Some, None, MatchOption, unwrap_or, get_or, sym, refl, ◌∙◌, inl, inr, arith}
+use Rattle.std.proofs.Common.{◌≡◌, ℕ, suc, ◌<◌, ◌≤◌, Bool, true, false, not, ◌&&◌, T, List, Option, Some, None, MatchOption, unwrap_or, get_or, sym, refl, ◌∙◌, inl, inr, arith}
 use Rattle.std.proofs.lemmas.Bool.{cases_lt, and_from, and_parts, not-true, not_from_false}
 use Rattle.constraints.specs.Finite.{any}
 use Rattle.constraints.specs.Constraint.{System, var_count}
@@ -67,3 +67,10 @@ module _ (sys : System) (same : ℕ → ℕ → Bool) (flags : List Bool) (class
       → unwrap_or r v ≡ representative sys same v
   by_plain_or plain no_open None none = absurd (none v inside (plain, refl))
   by_plain_or plain no_open (Some u) low = by_plain plain no_open u low
+
+-- what a search by number found
+pub lowest_below : (n : ℕ) (P : ℕ → Type 0) (r : Option ℕ)
+    → MatchOption r ((k : ℕ) → 0 ≤ k → k < n → P k → ⊥) (λ p. (0 ≤ p) × (p < n) × P p × ((k : ℕ) → 0 ≤ k → k < p → P k → ⊥))
+    → MatchOption r (NoneBelow n P) (LowestBelow n P)
+lowest_below n P None none = λ j below. none j (omega arith) below
+lowest_below n P (Some p) found = record { inside = found.1; has = found.2; least = λ j below. found.3 j (omega arith) below }

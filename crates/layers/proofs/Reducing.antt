@@ -1,6 +1,7 @@
 -- The reduced list, word by word.
-use Rattle.std.proofs.Common.{◌≡◌, ℕ, zero, suc, ◌+◌, ◌<◌, ◌≤◌, Bool, true, false, cond, ◌&&◌, ◌||◌, T, eqb, List, [], ◌∷◌, ◌++◌, length, get_or, take, refl, ap, ◌∙◌, inl, inr, length-append, arith, eqb→eq}
+use Rattle.std.proofs.Common.{◌≡◌, ℕ, zero, suc, ◌+◌, ◌<◌, ◌≤◌, Bool, true, false, cond, ◌&&◌, ◌||◌, T, eqb, List, [], ◌∷◌, ◌++◌, length, Option, Some, None, unwrap_or, get_or, take, refl, ap, ◌∙◌, inl, inr, length-append, arith, eqb→eq}
 use Rattle.std.specs.List.{list_any}
+use Rattle.std.specs.Option.{MatchOption}
 use Rattle.std.proofs.lemmas.List.{take_more}
 use Rattle.std.proofs.lemmas.List.Folds.{list_any_at}
 use Rattle.std.proofs.lemmas.Bool.{eq-eqb, ne_eqb}
@@ -103,3 +104,11 @@ module _ (rep : ℕ → ℕ) (words : List ℕ) (x : ℕ) where
   earliest_none none =
       lowest_none (length words) (λ j. eqb (renamed_word rep (get_or words j 0)) x)
       (λ j lt t. none j lt (eqb→eq (renamed_word rep (get_or words j 0)) x t))
+
+  -- what a search by position found
+  pub earliest_found : (r : Option ℕ)
+      → MatchOption r ((k : ℕ) → 0 ≤ k → k < length words → renamed_word rep (get_or words k 0) ≡ x → ⊥)
+      (λ i. (0 ≤ i) × (i < length words) × (renamed_word rep (get_or words i 0) ≡ x) × ((k : ℕ) → 0 ≤ k → k < i → renamed_word rep (get_or words k 0) ≡ x → ⊥))
+      → (unwrap_or r (length words) ≤ length words) × (unwrap_or r (length words) ≡ own_position rep words x)
+  earliest_found None none = (omega arith, earliest_none (λ k below. none k (omega arith) below))
+  earliest_found (Some i) found = (omega (arith, found.1), earliest_here i found.1 found.2 (λ k below. found.3 k (omega arith) below))

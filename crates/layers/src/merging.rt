@@ -98,6 +98,7 @@ pub struct Merging<M: Merge, E: Engine> {
     merge: M,
     below: E,
     plan: Plan,
+    // Stays: a flag beside the plan, since the plan's memory is kept while gathering.
     settled: bool,
     ghost handed: { LayerSound settled (E.Engine.meaning below) M.Merge.same plan },
 }
