@@ -16,7 +16,8 @@ pub struct BitRows {
     words: Vec<u32>,
 }
 
-// Stays: beside the matrices of graphs, whose words are an array of their own; a store's are lent to it, and may be too few.
+// Whether bit o of row v is set.
+// Stays: these functions are kept beside the matrices of graphs, whose words are an array of their own; a store's are given to it, and may be too few.
 fn bit_is_set(words: &[u32], v: u8, o: u8) -> bool
     ensures { result ≡ bit_pairs words.now v o }
 {

@@ -13,7 +13,7 @@ pub struct Pair {
     pub object: u8,
 }
 
-#[derive(Drop)]
+#[derive(Debug, Drop)]
 pub struct Pending {
     // all pairs that came since the queue was made or cleared
     pairs: ArrayVec<Pair, 65536>,

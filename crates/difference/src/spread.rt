@@ -13,8 +13,6 @@ use constraints::{Constraint, ConstraintList};
 use rows::StoreFault;
 use walks::{Grower, for_each_object, load_from, slot, store_into};
 
-// Stays: the numbers of a load and of a store stand one by one, since a struct of them would say a variant of `Constraint` again.
-
 // Whether row v holds o.
 fn holds<G: Grower>(g: &G, v: u16, o: u16) -> Result<bool, StoreFault>
     requires variable { v < 256 }
@@ -24,6 +22,7 @@ fn holds<G: Grower>(g: &G, v: u16, o: u16) -> Result<bool, StoreFault>
 }
 
 // Where the pair is (q, o): row o + k into row p.
+// Stays: here and below the numbers of a load and of a store stand one by one, since a struct of them would say a variant of `Constraint` again.
 fn load_base<G: Grower>(
     list: &ConstraintList,
     g: &mut G,

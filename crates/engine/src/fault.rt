@@ -1,7 +1,7 @@
 // What an engine refuses with.
-ghost use Rattle.std.specs.Prelude.{◌≡◌};
+ghost use Rattle.std.specs.Prelude.{◌≡◌, cond, Ok, Err};
 ghost use Rattle.engine.specs.Faults.{refusal, from_store, stopped_at};
-ghost use Rattle.engine.specs.declared.fault.EngineFault.TheVariants.{Rejected};
+ghost use Rattle.engine.specs.declared.fault.EngineFault.TheVariants.{Settled, Rejected};
 
 use constraints::ListFault;
 use rows::StoreFault;
@@ -33,6 +33,7 @@ pub enum EngineFault {
 
 impl EngineFault {
     // The number under which the refusal is known.
+    // Stays: by a match, since the numbers are those that hosts know.
     pub fn number(self) -> u8
         ensures { result ≡ (refusal self).0 }
     {
@@ -53,6 +54,18 @@ pub struct Stopped {
     pub store: StoreFault,
 }
 
+// Refuses while settled.
+pub fn gathering(settled: bool) -> Result<(), EngineFault>
+    ensures { result ≡ cond settled (Err Settled) (Ok tt) }
+{
+    if settled {
+        Err(EngineFault::Settled)
+    } else {
+        Ok(())
+    }
+}
+
+// Stays: by hand, since clauses name the fault that a `?` makes.
 impl From<ListFault> for EngineFault {
     ghost from_gives = { λ f r. r ≡ Rejected f };
 
@@ -62,6 +75,7 @@ impl From<ListFault> for EngineFault {
 }
 
 // A store's fault at a question is that the variable or the object is too large.
+// Stays: by hand, since clauses name the fault that a `?` makes.
 impl From<StoreFault> for EngineFault {
     ghost from_gives = { λ f r. r ≡ from_store f };
 
@@ -76,6 +90,7 @@ impl From<StoreFault> for EngineFault {
     }
 }
 
+// Stays: by hand, since clauses name the fault that a `?` makes.
 impl From<Stopped> for EngineFault {
     ghost from_gives = { λ f r. r ≡ stopped_at f.position f.store };
 

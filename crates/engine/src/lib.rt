@@ -8,7 +8,7 @@ ghost use Rattle.std.specs.Prelude.{◌≡◌};
 ghost use Rattle.constraints.specs.Lists.{no_words};
 ghost use Rattle.engine.specs.Meanings.{Meaning, Roomy, gathering, block_answer, block_added, add_answer, word_added, Settles, holds_answer, next_answer, size_answer};
 
-pub use fault::{EngineFault, Overflow, Stopped};
+pub use fault::{EngineFault, Overflow, Stopped, gathering};
 pub use hand::hand_down;
 
 // An engine means a list, whether it is settled, and, fixed, a rule: its room, which lists fit, and what a room fault names.

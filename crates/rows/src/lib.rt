@@ -23,6 +23,7 @@ pub enum StoreFault {
 
 impl StoreFault {
     // The number under which the refusal is known.
+    // Stays: by a match, since the numbers are those that hosts know.
     pub fn number(&self) -> u8
         ensures { result ≡ (refusal self.now).0 }
     {

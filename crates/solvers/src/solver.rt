@@ -1,15 +1,14 @@
 // The engine over any propagation.
-ghost use Rattle.std.specs.Prelude.{◌≡◌, false, nat_lt, cond, Ok, Err};
+ghost use Rattle.std.specs.Prelude.{◌≡◌, false, nat_lt};
 ghost use Rattle.constraints.specs.Lists.{system_of, no_words};
 ghost use Rattle.constraints.specs.Constraint.{var_count};
 ghost use Rattle.engine.specs.Meanings.{answer};
-ghost use Rattle.engine.specs.declared.fault.EngineFault.TheVariants.{Settled};
 ghost use Rattle.solvers.specs.Taking.{SettledList, solver_meaning, Solved};
 ghost use Rattle.solvers.specs.Roominess.{solver_roomy};
 
 use crate::Propagation;
 use constraints::ConstraintList;
-use engine::{Engine, EngineFault, Stopped};
+use engine::{Engine, EngineFault, Stopped, gathering};
 use rows::RowStore;
 
 // Takes the words in, one by one. The word at which the store is full is the earliest whose list does not fit:
@@ -33,6 +32,7 @@ fn settle_list<P: Propagation>(list: &ConstraintList, work: &mut P) -> Result<()
 pub struct Solver<P: Propagation> {
     list: ConstraintList,
     work: P,
+    // Stays: a flag beside the rows, since their memory is kept while gathering.
     settled: bool,
     ghost solved: { Solved (P.Propagation.rows work) (system_of list) settled },
 }
@@ -49,17 +49,6 @@ impl<P: Propagation> Solver<P> {
         }
     }
 
-    // Whether the list may still change.
-    fn gathering(&self) -> Result<(), EngineFault>
-        ensures { result ≡ cond self.now.settled (Err Settled) (Ok tt) }
-    {
-        if self.settled {
-            Err(EngineFault::Settled)
-        } else {
-            Ok(())
-        }
-    }
-
     // Whether a question about row v is answered.
     fn admit(&self, v: u16) -> Result<(), EngineFault>
         ensures { result ≡ answer (solver_meaning (P.limit self.now.work) (system_of self.now.list) self.now.settled) (nat_lt v (var_count (system_of self.now.list))) tt }
@@ -67,7 +56,7 @@ impl<P: Propagation> Solver<P> {
         if !self.settled {
             return Err(EngineFault::Gathering);
         }
-        if v as usize >= self.list.variables() {
+        if usize::from(v) >= self.list.variables() {
             return Err(EngineFault::Outside);
         }
         Ok(())
@@ -85,17 +74,17 @@ impl<P: Propagation> Engine for Solver<P> {
     }
 
     fn block(&mut self, n: u8) -> Result<u16, EngineFault> {
-        self.gathering()?;
+        gathering(self.settled)?;
         Ok(self.list.block(n)?)
     }
 
     fn add(&mut self, word: u32) -> Result<(), EngineFault> {
-        self.gathering()?;
+        gathering(self.settled)?;
         Ok(self.list.add(word)?)
     }
 
     fn settle(&mut self) -> Result<(), EngineFault> {
-        self.gathering()?;
+        gathering(self.settled)?;
         settle_list(&self.list, &mut self.work)?;
         self.settled = true;
         Ok(())
@@ -103,7 +92,7 @@ impl<P: Propagation> Engine for Solver<P> {
 
     fn holds(&mut self, v: u16, o: u16) -> Result<bool, EngineFault> {
         self.admit(v)?;
-        if self.list.length_of(o as usize) == 0 {
+        if self.list.length_of(usize::from(o)) == 0 {
             return Err(EngineFault::Outside);
         }
         Ok(self.work.store().has(v, o)?)

@@ -15,6 +15,7 @@ use constraints::{Constraint, ConstraintList};
 use rows::StoreFault;
 
 // Rows that grow pair by pair, with a note of each new pair.
+// Stays: variables and objects are `u16` with a bound, as `Constraint` and the stores have them; as `u8` each call of those would convert.
 pub trait Grower {
     ghost rows: { Self → Rows };
 
@@ -38,8 +39,6 @@ pub trait Grower {
 
     ghost onward: { (sys : System) (s t u : Self) → notes sys s t → notes sys t u → notes sys s u };
 }
-
-// Stays: variables and objects are `u16` with a bound, as `Constraint` and the stores have them; as `u8` each call of those would convert.
 
 // Visits the objects of row v in their order, those among them that a visit adds further on.
 pub fn for_each_object<G: Grower, F: Fn(&mut G, u16) -> Result<(), StoreFault>>(
@@ -82,7 +81,7 @@ pub fn copy_row<G: Grower>(
 pub fn slot(list: &ConstraintList, o: u16, k: u16) -> Option<u16>
     ensures { MatchOption result (length_of (system_of list.now).blocks o ≤ k) (λ v. (v ≡ o + k) × (k < length_of (system_of list.now).blocks o) × (v < 256)) }
 {
-    if k < u16::from(list.length_of(o as usize)) {
+    if k < u16::from(list.length_of(usize::from(o))) {
         Some(o + k)
     } else {
         None
@@ -90,6 +89,7 @@ pub fn slot(list: &ConstraintList, o: u16, k: u16) -> Option<u16>
 }
 
 // Puts row o + k into row p, where the block of o is longer than k.
+// Stays: here and below the numbers of a load and of a store stand one by one, since a struct of them would say a variant of `Constraint` again.
 pub fn load_from<G: Grower>(
     list: &ConstraintList,
     g: &mut G,

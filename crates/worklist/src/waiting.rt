@@ -2,7 +2,7 @@
 ghost use Rattle.std.specs.Prelude.{◌≡◌, ℕ, ◌<◌, true, false, not, ◌&&◌, ◌||◌, MatchOption, ◌==◌};
 ghost use Rattle.worklist.specs.Waits.{waits};
 
-#[derive(Drop)]
+#[derive(Debug, Drop)]
 pub struct Waiting {
     flags: [bool; 512],
 }

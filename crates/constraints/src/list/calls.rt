@@ -23,6 +23,7 @@ pub enum ListFault {
 
 impl ListFault {
     // The number under which the refusal is known.
+    // Stays: by a match, since the numbers are those that hosts know.
     pub fn number(self) -> u8
         ensures { result ≡ refusal_number self }
     {
