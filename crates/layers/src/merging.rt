@@ -1,12 +1,12 @@
 // A layer over any engine, by any classes of variables.
-ghost use Rattle.std.specs.Prelude.{◌≡◌, ℕ, ◌<◌, ◌≤◌, Bool, false, not, cond, length, nat_lt, Ok, Err, ◌==◌, slice_index};
+ghost use Rattle.std.specs.Prelude.{◌≡◌, ℕ, ◌<◌, ◌≤◌, Bool, false, not, length, nat_lt, Ok, ◌==◌, slice_index};
 ghost use Rattle.constraints.specs.Finite.{count};
 ghost use Rattle.constraints.specs.Constraint.{Valid, var_count};
 ghost use Rattle.constraints.specs.Reduced.{replaced};
 ghost use Rattle.constraints.specs.Theorems.{LayerIsRight};
 ghost use Rattle.constraints.specs.Lists.{system_of, no_words};
 ghost use Rattle.engine.specs.Meanings.{gathering, answer};
-ghost use Rattle.engine.specs.declared.fault.EngineFault.TheVariants.{NoRoom, Settled};
+ghost use Rattle.engine.specs.declared.fault.EngineFault.TheVariants.{NoRoom};
 ghost use Rattle.engine.specs.declared.fault.Overflow.{Overflow};
 ghost use Rattle.layers.specs.Classes.{Numbers, Named, Representatives};
 ghost use Rattle.layers.specs.Layered.{Classing, rep_by, raised, layered, layer_roomy};
@@ -18,7 +18,7 @@ use crate::reduce::{earliest, reduce};
 use crate::represent::Classes;
 use arrayvec::ArrayVec;
 use constraints::ConstraintList;
-use engine::{Engine, EngineFault, Overflow, hand_down};
+use engine::{Engine, EngineFault, Overflow, gathering, hand_down};
 use flows::find_open;
 
 // How variables are put into classes.
@@ -121,17 +121,6 @@ impl<M: Merge, E: Engine> Merging<M, E> {
         }
     }
 
-    // Whether the list may still change.
-    fn gathering(&self) -> Result<(), EngineFault>
-        ensures { result ≡ cond self.now.settled (Err Settled) (Ok tt) }
-    {
-        if self.settled {
-            Err(EngineFault::Settled)
-        } else {
-            Ok(())
-        }
-    }
-
     // The variable that stands for v, where a question about v is answered.
     fn admit(&self, v: u16) -> Result<u16, EngineFault>
         ensures { result ≡ answer (layered M.Merge.same (E.meaning self.now.below) (system_of self.now.plan.own) self.now.settled) (nat_lt v (var_count (system_of self.now.plan.own))) (rep_by M.Merge.same (system_of self.now.plan.own) v) }
@@ -181,17 +170,17 @@ impl<M: Merge, E: Engine> Engine for Merging<M, E> {
     }
 
     fn block(&mut self, n: u8) -> Result<u16, EngineFault> {
-        self.gathering()?;
+        gathering(self.settled)?;
         Ok(self.plan.own.block(n)?)
     }
 
     fn add(&mut self, word: u32) -> Result<(), EngineFault> {
-        self.gathering()?;
+        gathering(self.settled)?;
         Ok(self.plan.own.add(word)?)
     }
 
     fn settle(&mut self) -> Result<(), EngineFault> {
-        self.gathering()?;
+        gathering(self.settled)?;
         prepare(&mut self.merge, &mut self.plan);
         hand_plan(&mut self.below, &self.plan)?;
         // Stays: under `map_err` the proof of what `raise` requires is left open inside the closure.
