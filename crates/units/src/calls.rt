@@ -21,8 +21,6 @@ fn pointer_of(item: Item) -> Option<Place>
     }
 }
 
-// Stays: with `filter_map` over the pointers the proof did not close: a pointer's meaning needs its text, and std's lemma
-// takes each item that is kept as it is.
 fn is_indirect(item: Item) -> bool
     ensures { (text : List ℕ) → result ≡ nat_lt 0 (length (pointers_of (item_in text item))) }
 {
