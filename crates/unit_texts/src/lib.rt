@@ -39,47 +39,45 @@ mod tests {
     const VALVES: &[u8] =
         b"fun open 1; fun shut 1; var v; var h; var x;\nh = &open; h = &shut;\nx = (*h)(v);";
 
-    // Stays: the expected values are written with one number for both outcomes.
-    // 0 where the grammar admits the text, else 1 + offset.
-    fn fault(text: &[u8]) -> usize {
-        let fault = check_grammar(text).err();
-        fault.map_or(0, |location| location.offset.saturating_add(1))
+    // The offset of the grammar's fault.
+    fn fault(text: &[u8]) -> Option<usize> {
+        check_grammar(text).err().map(|location| location.offset)
     }
 
     #[test]
     fn admitted(rt: HostRuntime) {
-        assert_eq!(rt; fault(b""), 0);
-        assert_eq!(rt; fault(&[b' '; 4096]), 0);
-        assert_eq!(rt; fault(VALVES), 0);
-        assert_eq!(rt; fault(b"var p;\r\n\tp=q;"), 0);
-        assert_eq!(rt; fault(b"fun f 6;"), 0);
-        assert_eq!(rt; fault(b"var abcdefghijklmnopqrstuvwx;"), 0);
-        assert_eq!(rt; fault(b"p.r = q.1; _ = &p_9;"), 0);
-        assert_eq!(rt; fault(b"f(a,b,c,d,e,g);"), 0);
-        assert_eq!(rt; fault(b"(*p.r)();*p=q;p=*q;p=f();"), 0);
+        assert_eq!(rt; fault(b""), None);
+        assert_eq!(rt; fault(&[b' '; 4096]), None);
+        assert_eq!(rt; fault(VALVES), None);
+        assert_eq!(rt; fault(b"var p;\r\n\tp=q;"), None);
+        assert_eq!(rt; fault(b"fun f 6;"), None);
+        assert_eq!(rt; fault(b"var abcdefghijklmnopqrstuvwx;"), None);
+        assert_eq!(rt; fault(b"p.r = q.1; _ = &p_9;"), None);
+        assert_eq!(rt; fault(b"f(a,b,c,d,e,g);"), None);
+        assert_eq!(rt; fault(b"(*p.r)();*p=q;p=*q;p=f();"), None);
     }
 
     #[test]
     fn refused(rt: HostRuntime) {
-        assert_eq!(rt; fault(b"var p"), 6);
-        assert_eq!(rt; fault(b"var p;;"), 7);
-        assert_eq!(rt; fault(b"fun f 66;"), 7);
-        assert_eq!(rt; fault(b"fun f 7;"), 7);
-        assert_eq!(rt; fault(b"fun f 6a;"), 8);
-        assert_eq!(rt; fault(b"var abcdefghijklmnopqrstuvwxy;"), 5);
-        assert_eq!(rt; fault(b"var ab cd;"), 8);
-        assert_eq!(rt; fault(b"var var;"), 5);
-        assert_eq!(rt; fault(b"\0"), 1);
-        assert_eq!(rt; fault(b" \xff"), 2);
-        assert_eq!(rt; fault(b"p.s = q;"), 3);
-        assert_eq!(rt; fault(b"p.1(a);"), 4);
-        assert_eq!(rt; fault(b"f(a,b,c,d,e,g,h);"), 14);
+        assert_eq!(rt; fault(b"var p"), Some(5));
+        assert_eq!(rt; fault(b"var p;;"), Some(6));
+        assert_eq!(rt; fault(b"fun f 66;"), Some(6));
+        assert_eq!(rt; fault(b"fun f 7;"), Some(6));
+        assert_eq!(rt; fault(b"fun f 6a;"), Some(7));
+        assert_eq!(rt; fault(b"var abcdefghijklmnopqrstuvwxy;"), Some(4));
+        assert_eq!(rt; fault(b"var ab cd;"), Some(7));
+        assert_eq!(rt; fault(b"var var;"), Some(4));
+        assert_eq!(rt; fault(b"\0"), Some(0));
+        assert_eq!(rt; fault(b" \xff"), Some(1));
+        assert_eq!(rt; fault(b"p.s = q;"), Some(2));
+        assert_eq!(rt; fault(b"p.1(a);"), Some(3));
+        assert_eq!(rt; fault(b"f(a,b,c,d,e,g,h);"), Some(13));
     }
 
     #[test]
     fn lines(rt: HostRuntime) {
         let fault = check_grammar(b"var p;\r\nvar q;\nvar ;").err();
-        assert_eq!(rt; fault.map_or(0, |location| location.line), 3);
+        assert_eq!(rt; fault.map(|location| location.line), Some(3));
     }
 
     #[test]
@@ -107,7 +105,7 @@ mod tests {
         assert_eq!(rt; count_words(b"x = y; oops"), 0);
         assert_eq!(rt; count_calls(b"(*p)(a, b); f(a); x = (*q.r)();"), 2);
         let second = call_pointer(b"(*p)(a, b); f(a); x = (*q.r)();", 1);
-        assert_eq!(rt; second.map_or(0, |place| place.base.from), 24);
+        assert_eq!(rt; second.map(|place| place.base.from), Some(24));
         assert_eq!(rt; call_pointer(VALVES, 1).is_some(), false);
     }
 }

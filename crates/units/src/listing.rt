@@ -17,6 +17,7 @@ pub struct ListedWord {
 }
 
 // Writes at position from + k, if there is one.
+// Stays: `from` may lie past the end, where a slice from it on would end the run.
 fn put(out: &mut [ListedWord], from: usize, k: usize, word: ListedWord)
     ensures { out.new ≡ slice_set out.old (from + k) word }
 {
