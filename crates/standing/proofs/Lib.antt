@@ -13,3 +13,4 @@ pub mod Laying
 pub mod Listing
 pub mod Looking
 pub mod Answering
+pub mod Yields

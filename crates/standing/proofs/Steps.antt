@@ -1,5 +1,5 @@
 -- One declaration more of a pass, as the code goes through it.
-use Rattle.std.proofs.Common.{◌≡◌, ℕ, ◌+◌, Bool, true, false, cond, ◌&&◌, List, ◌∷◌, is_ok, is_err, Some, Ok, Err, Option, Result, sym, refl, ap, ◌∙◌}
+use Rattle.std.proofs.Common.{◌≡◌, ℕ, ◌+◌, Bool, true, false, ◌&&◌, List, ◌∷◌, is_ok, is_err, Some, Ok, Err, Option, Result, sym, refl, ap, ◌∙◌}
 use Rattle.declarations.specs.declared.cursor.Declaration.{Declaration}
 use Rattle.lexemes.specs.Texts.{name_in_text}
 use Rattle.declarations.specs.Declarations.{Mention}
@@ -11,8 +11,7 @@ use Rattle.names.specs.Notes.{lowered, then_note, with_note}
 use Rattle.names.specs.Tables.{mention_reply, after_mention, mention_adds}
 use Rattle.names.specs.Held.{notes, variables_of}
 use Rattle.books.specs.Books.{is_defined}
-use Rattle.books.specs.Loads.{first_at}
-use Rattle.standing.specs.Passes.{Known, known_in, clashes_note, clashes_known, fits_one, enter_one, fit_all, enter_all, forget_all}
+use Rattle.standing.specs.Passes.{Known, known_in, fits_one, enter_one, fit_all, enter_all, forget_all}
 
 pub err_not_ok : {X F : Type 0} (r : Result X F) → is_err r ≡ true → is_ok r ≡ false
 err_not_ok (Ok x) e = sym e
@@ -20,12 +19,6 @@ err_not_ok (Err f) e = refl
 
 -- the declaration d of a text, whose name has the bytes b
 module _ (text : List ℕ) (d : Declaration) (b : List ℕ) (bytes : b ≡ (name_in_text text d.name).bytes) where
-  pub clash_one : (known : List ℕ → Option Note) (o : Option Note) (r : Bool) → o ≡ known b → r ≡ clashes_note (is_defined d.linkage) d.slots o
-      → (ds : List Mention) → first_at (clashes_known known) (declaration_in text d ∷ ds) ≡ cond r (Some d.name.from) (first_at (clashes_known known) ds)
-  clash_one known o r found test ds =
-      ap (λ (l : Bool). cond l (Some d.name.from) (first_at (clashes_known known) ds))
-      (ap (clashes_note (is_defined d.linkage) d.slots) (ap known (sym bytes) ∙ sym found) ∙ sym test)
-
   -- a mention that was replied r left the table t'
   module _ (t t' : NameTable) (defines : Bool) (r : Result (Unit {0}) TableFull) (is : defines ≡ is_defined d.linkage)
       (reply : r ≡ mention_reply (notes t b) (variables_of t) b d.slots) where

@@ -2,6 +2,7 @@
 use declarations::cursor::{Declaration, next_declaration};
 
 // The declarations from an offset on, up to the text's end or to a fault.
+// Stays: beside the items of a text, since what an item declares is told by a private function of the declarations.
 #[derive(Clone, Copy, Drop)]
 pub struct Declarations<'a> {
     text: &'a [u8],

@@ -13,7 +13,8 @@ pub struct Owner {
 #[derive(Drop)]
 pub struct UnitList {
     blocks: ArrayVec<u8, 256>,
-    // Stays: the owner of each block is beside the blocks, since hosts are lent the blocks as a slice.
+    // Stays: the owner of each block is beside the blocks, since hosts are lent the blocks as a slice; and an array, since
+    // a vector would need an owner by default, who owns nothing.
     owners: [Owner; 256],
     // how many variables the blocks have
     variables: u16,

@@ -2,6 +2,7 @@
 ghost use Rattle.std.specs.Prelude.{◌≡◌, true, is_ok, Ok as Fine};
 ghost use Rattle.grammar.specs.Units.{read, outcome};
 ghost use Rattle.declarations.specs.Declarations.{declarations_in};
+ghost use Rattle.declarations.specs.Meanings.{declaration_in};
 ghost use Rattle.names.specs.Held.{notes};
 ghost use Rattle.books.specs.Books.{is_defined};
 ghost use Rattle.books.specs.Loads.{first_at};
@@ -29,18 +30,21 @@ fn is_clash(known: Option<Note>, declaration: Declaration) -> bool
     })
 }
 
+// Whether a declaration of a text clashes with what is known of its name.
+fn clashes(names: &NameTable, text: &[u8], declaration: Declaration) -> bool
+    ensures { result ≡ clashes_known (notes names.now) (declaration_in text.now declaration) }
+{
+    is_clash(names.find(bytes_of(text, declaration.name)), declaration)
+}
+
 // The offset of the first declared name that clashes with what is known of it.
 pub(crate) fn first_clash(names: &NameTable, text: &[u8]) -> Option<usize>
     requires { Fine tt ≡ outcome (read text.now) }
     ensures { result ≡ first_at (clashes_known (notes names.now)) (declarations_in text.now) }
 {
-    for found in Declarations::new(text) {
-        let known = names.find(bytes_of(text, found.name));
-        if is_clash(known, found) {
-            return Some(found.name.from);
-        }
-    }
-    None
+    Declarations::new(text)
+        .find(|found| clashes(names, text, *found))
+        .map(|found| found.name.from)
 }
 
 // One unit more declares the text's names; some may be entered where not all are.

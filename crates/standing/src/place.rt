@@ -13,7 +13,7 @@ use grammar::unit_text::UnitText;
 use lexemes::lexeme::bytes_of;
 use names::NameTable;
 
-// Stays: the table and the list are passed apart, since a struct of both would be two borrows for one pass.
+// Stays: the table and the list are lent side by side, since a struct of both would be two more loans for one pass.
 
 // Gives the name the next block, unless it has one.
 fn place_name(names: &mut NameTable, name: &[u8], owner: Owner, list: &mut UnitList)

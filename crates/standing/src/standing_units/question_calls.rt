@@ -58,10 +58,7 @@ impl StandingUnits {
     pub fn line(&self, unit: usize, offset: usize) -> usize
         ensures { (t : List ℕ) → slice_index_or (units_of self.now) unit None ≡ Some t → result ≡ line_of t offset }
     {
-        match self.text(unit) {
-            Ok(text) => line_of(text, offset),
-            Err(_) => 0,
-        }
+        self.text(unit).map_or(0, |text| line_of(text, offset))
     }
 
     // The name that a block belongs to, read where it is declared.
