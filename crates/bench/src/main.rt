@@ -36,6 +36,8 @@ fn measure<E: Engine + Drop>(
     Ok(outcome)
 }
 
+// A store of bits, and below one of chains, in memory from the heap.
+// Stays: layers_checks has the like of both; no crate is below these two programs alone.
 fn bits(rt: &HostRuntime) -> io::Result<BitRows> {
     let words = vec![in rt.alloc(); 0u32; 2048]?;
     Ok(BitRows::new(words))

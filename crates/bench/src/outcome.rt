@@ -3,11 +3,12 @@ use crate::case::Case;
 use engine::{Engine, EngineFault, Overflow};
 use std::fmt;
 
+// Stays: no `Result` of pairs and digest, since outcomes of two solvers are compared, and these name different pairs that found no room.
 #[derive(Clone, Copy, PartialEq, Eq)]
 pub enum Outcome {
     // how many pairs, and a digest of all rows
     Settled { pairs: u32, digest: u32 },
-    // which pair of the smallest solution found no room depends on the solver
+    // the word at which the list stopped fitting
     NoRoom { position: u16, depth: u8 },
     // any other refusal
     Refused(EngineFault),
