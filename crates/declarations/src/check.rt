@@ -98,7 +98,7 @@ fn first_fault(names: &Names, first: &[u16], sizes: &mut [u32]) -> Option<usize>
     ensures { result ≡ fault_after [] (map (mention_in names.now.text.now) names.now.mentions.now) }
 {
     sizes.fill(0);
-    // Stays: `first` and the lengths are read by position, and only the mentions are iterated.
+    // Stays: `first` is read by the mention's position, since the numbering is said by positions, and `sizes` by a position that it gives.
     for (k, mention) in names.mentions.iter().enumerate() {
         let at = usize::from(first[k]);
         let size = sizes[at];
