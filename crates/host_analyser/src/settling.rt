@@ -28,6 +28,7 @@ fn located(units: &StandingUnits, list: &UnitList, fault: EngineFault) -> RoomFa
         EngineFault::NoRoom(overflow) => list.origin(usize::from(overflow.position)),
         _ => None,
     };
+    // Stays: numbers, since an overflow's word always comes from a statement, and the zeros reach no host.
     let (unit, line) = origin.map_or((0, 0), |word| (word.unit, units.line(word.unit, word.at)));
     RoomFault { unit, line, fault }
 }
