@@ -1,5 +1,5 @@
 -- A refused load or unload leaves the analyser as it stood.
-use Rattle.std.proofs.Common.{◌≡◌, ℕ, Bool, List, map, set, Some, None, Err, Option, Result, sym, ap, ◌∙◌, subst}
+use Rattle.std.proofs.Common.{◌≡◌, ℕ, List, map, set, Some, None, Err, Option, Result, sym, ap, ◌∙◌, subst}
 use Rattle.engine.specs.Meanings.{Meaning}
 use Rattle.books.specs.Books.{standing, list_of, table, Book as Lawful}
 use Rattle.standing.specs.declared.list.UnitList.{UnitList}
@@ -9,7 +9,6 @@ use Rattle.standing.specs.Loads.{load_refusal, unload_refusal, load_units, unloa
 use Rattle.standing.specs.Lists.{owners_in}
 use Rattle.standing.specs.Refusals.{done_or}
 use Rattle.standing.specs.States.{units_of, LaidOut, owned_name, name_in_entry}
-use Rattle.host_analyser.specs.Books.{Book, unsettled, load_book, unload_book}
 use Rattle.host_analyser.specs.InStep.{SettledRight}
 
 pub refused_reply : (o : Option UnitRefusal) (f : UnitRefusal) → ◌≡◌ {A = Result (Unit {0}) UnitRefusal} (Err f) (done_or o) → o ≡ Some f
@@ -23,18 +22,6 @@ load_refused old new u t f e after = after ∙ ap (λ o. unless o (set (units_of
 pub unload_refused : (old new : StandingUnits) (u : ℕ) (f : UnitRefusal) → unload_refusal (units_of old) u ≡ Some f
     → units_of new ≡ unload_units (units_of old) u → units_of new ≡ units_of old
 unload_refused old new u f e after = after ∙ ap (λ o. unless o (set (units_of old) u None) (units_of old)) e
-
-pub load_stays : (old new : StandingUnits) (s : Bool) (u : ℕ) (t : List ℕ) (f : UnitRefusal) → load_refusal (units_of old) u t ≡ Some f
-    → units_of new ≡ units_of old → record { units = units_of new; settled = s } ≡ load_book (record { units = units_of old; settled = s }) u t
-load_stays old new s u t f e same =
-    let b : Book = record { units = units_of old; settled = s } in
-    ap (λ us. record { units = us; settled = s }) same ∙ sym (ap (λ o. unless o (unsettled (set (units_of old) u (Some t))) b) e)
-
-pub unload_stays : (old new : StandingUnits) (s : Bool) (u : ℕ) (f : UnitRefusal) → unload_refusal (units_of old) u ≡ Some f
-    → units_of new ≡ units_of old → record { units = units_of new; settled = s } ≡ unload_book (record { units = units_of old; settled = s }) u
-unload_stays old new s u f e same =
-    let b : Book = record { units = units_of old; settled = s } in
-    ap (λ us. record { units = us; settled = s }) same ∙ sym (ap (λ o. unless o (unsettled (set (units_of old) u None)) b) e)
 
 -- the same units, laid out as before
 pub still_right : (m : Meaning) (old new : StandingUnits) (list : UnitList) → units_of new ≡ units_of old → (LaidOut old → LaidOut new)

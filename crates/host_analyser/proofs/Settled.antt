@@ -1,5 +1,5 @@
 -- What a settle that fails for room says, and what it leaves.
-use Rattle.std.proofs.Common.{◌≡◌, ◌<◌, true, false, cond, List, Ok, Err, MatchBool, Result, sym, refl, ap, ◌∙◌, subst, subst₂, ⊎_elim}
+use Rattle.std.proofs.Common.{◌≡◌, ◌<◌, false, List, Ok, Err, MatchBool, Result, sym, refl, ap, ◌∙◌, subst, subst₂, ⊎_elim}
 use Rattle.std.proofs.lemmas.Bool.{cases_lt}
 use Rattle.constraints.specs.Constraint.{System}
 use Rattle.constraints.specs.Rows.{total}
@@ -15,7 +15,7 @@ use Rattle.books.proofs.Listing.{words_have_origins}
 use Rattle.host_analyser.specs.declared.refusal.Refusal.{Refusal}
 use Rattle.host_analyser.specs.declared.refusal.Refusal.TheVariants.{SettledAlready, NoRoom}
 use Rattle.host_analyser.specs.declared.refusal.RoomFault.{RoomFault}
-use Rattle.host_analyser.specs.Books.{Book, texts_of, book_list, settle_book}
+use Rattle.host_analyser.specs.Books.{Book, texts_of, book_list}
 use Rattle.host_analyser.specs.Replies.{OutOfRoom, SettleResult}
 use Rattle.host_analyser.specs.Settling.{Locates}
 
@@ -57,7 +57,3 @@ pub says_no_room : (rule : Rule) (b : Book) (f : RoomFault) → b.settled ≡ fa
 says_no_room rule b f open_book unfit room =
     let r : Result (Unit {0}) Refusal = Err (NoRoom f) in
     subst₂ (λ s x. MatchBool s (r ≡ Err SettledAlready) (MatchBool x (r ≡ Ok tt) ((g : RoomFault) × (r ≡ Err (NoRoom g)) × OutOfRoom rule b g))) (sym open_book) (sym unfit) (f, refl, room)
-
-pub stays_unsettled : (rule : Rule) (b : Book) (units : Units) → units ≡ b.units → rule.fits (book_list b) ≡ false → record { units = units; settled = b.settled } ≡ settle_book rule b
-stays_unsettled rule b units same unfit =
-    ap (λ us. record { units = us; settled = b.settled }) same ∙ sym (ap (λ f. cond f (record { units = b.units; settled = true }) b) unfit)

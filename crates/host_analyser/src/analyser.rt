@@ -17,6 +17,7 @@ pub struct Analyser<E: Engine> {
     units: StandingUnits,
     list: UnitList,
     engine: E,
+    // Stays: a flag, since the list's and the engine's memory is kept while the texts are not settled.
     settled: bool,
     ghost in_step: { settled ≡ true → ∥ SettledRight (E.meaning engine) units list ∥₁ },
 }

@@ -15,8 +15,10 @@ use standing::list::UnitList;
 use standing::standing_units::StandingUnits;
 
 // No name is longer.
+// Stays: said here too, since the lexemes and the names keep theirs private, and the clauses say the number.
 const LONGEST_NAME: usize = 24;
 
+// Stays: beside its like for words, since one for both would be a public function below for three lines.
 fn put(out: &mut [u8], at: usize, byte: u8)
     ensures { out.new ≡ slice_set out.old at byte }
 {
@@ -42,6 +44,7 @@ fn put_line(out: &mut [u8], n: usize, name: &[u8]) -> usize
 }
 
 // Writes the name of a block if it is a function's and the row of v has its object.
+// Stays: its seven parameters meet in this one call, and a struct of a few would be made for it alone.
 fn put_target<E: Engine>(
     engine: &mut E,
     v: u8,

@@ -26,6 +26,7 @@ pub enum Refusal {
     BufferTooShort,
 }
 
+// Stays: clauses name the refusal that a `?` makes, so its `From` is written by hand, here and below.
 impl From<UnitRefusal> for Refusal {
     ghost from_gives = { λ f r. r ≡ Unit f };
 
@@ -44,6 +45,7 @@ impl From<RoomFault> for Refusal {
 
 impl Refusal {
     // The number by which hosts know this refusal.
+    // Stays: the numbers are the hosts'.
     pub fn number(&self) -> u32
         ensures { result ≡ number_of self.now }
     {
