@@ -29,14 +29,14 @@ pub enum Call<'a> {
     },
 }
 
-// What a call that is not refused has done or found.
+// What a call has done or found. A targets call is always answered, since its buffer comes back also where it is refused.
 #[derive(Drop)]
 pub enum Answer {
     Settled,
     Loaded,
     Unloaded,
     Whether(bool),
-    // of a targets call, also a refused one: the bytes written or the refusal, and what the buffer then holds
+    // the bytes written or the refusal, and what the buffer then holds
     Listed {
         outcome: Result<usize, Refusal>,
         buffer: Vec<u8>,
