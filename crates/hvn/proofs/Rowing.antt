@@ -31,9 +31,6 @@ same_row rows rows' i j same c =
     ]
 
 module _ (rows : List ℕ) (k : ℕ) where
-  pub settled_empty : NoneFrom rows k 0 2816 → Settled (in_row rows) k 0
-  settled_empty none = empty (λ c e. let (h, on) = in_parts rows k c e in none c (omega arith) h on) refl
-
   pub settled_lone : (c : ℕ) → NextColumn rows k 0 c → NoneFrom rows k (c + 1) 2816 → Settled (in_row rows) k (c + 1)
   settled_lone c next none =
       lone c (row_in rows k c next.inside ∙ next.set)

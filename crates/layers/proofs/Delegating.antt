@@ -57,11 +57,6 @@ module _ (same : Classing) (right : LayerIsRight same) (below : Meaning) (p : Pl
   pub layer_size : size_answer below r ≡ size_answer (layered same below own settled) v
   layer_size = rw (parts.0, h.answers, h.holds, rep_in, parts.1, row_kept)
 
-pub overflow_within : (m n : Meaning) (f : EngineFault) (o : Overflow) → Settles m n (Err f) → f ≡ NoRoom o → o.position < length m.system.words
-overflow_within m n f o h e =
-    let told : Settles m n (Err (NoRoom o)) = subst (λ x. Settles m n (Err x)) e h in
-    told.2.within
-
 -- a refusal from below, told by the layer
 pub layer_refused : (same : Classing) → LayerIsRight same → (m m' n : Meaning) (sys : System) (s : Bool) (f : EngineFault) → Valid sys
     → s ≡ false → m' ≡ gathering m (handed same sys) → Settles m' n (Err f)
@@ -84,7 +79,3 @@ layer_refused same right m m' n sys s (NoRoom o) valid still eq h =
       },
       ap (λ x. layered same x sys s) (h.3 ∙ eq),
     )
-
--- questions below change nothing that the layer rests on
-pub handed_on : (settled : Bool) (m m' : Meaning) (same : Classing) (p : Plan) → m' ≡ m → LayerSound settled m same p → LayerSound settled m' same p
-handed_on settled m m' same p e h is = subst (λ x. Handed x same p) (sym e) (h is)

@@ -57,11 +57,3 @@ new_sound t new =
   where
     unknown : (n : List ℕ) → notes t n ≡ None
     unknown n = ap (λ (rs : List NameRecord). note_of rs n) new
-
--- a refused load or unload leaves the units, and with the same names they are laid out as before
-pub still_laid_out : (before after : StandingUnits) (o : Option UnitRefusal) (new : Units) (r : Result (Unit {0}) UnitRefusal) → r ≡ done_or o → is_ok r ≡ false
-    → units_of after ≡ unless o new (units_of before) → after.names ≡ before.names → LaidOut before → LaidOut after
-unfolding LaidOut
-still_laid_out before after None new r e refused changed same laid = absurd (true≢false (ap is_ok (sym e) ∙ refused))
-still_laid_out before after (Some f) new r e refused changed same laid =
-    λ n. ap (λ t. first_in (notes t n)) same ∙ laid n ∙ ap (λ us. laid_first (table (standing us)) n) (sym changed)
