@@ -5,7 +5,7 @@ ghost use Rattle.std.specs.Prelude.{◌≡◌, ℕ, ◌+◌, ◌<◌, false, len
 ghost use Rattle.constraints.specs.Finite.{count};
 ghost use Rattle.constraints.specs.Rows.{empty, with_pair};
 ghost use Rattle.rows.specs.Stores.{Found};
-ghost use Rattle.chains.specs.Cells.{cell_of, head_of, in_row, chain_pairs, chain_room, chain_spare, linked_in, Rising, Placed, Sound};
+ghost use Rattle.chains.specs.Cells.{cell_at, cell_of, head_of, in_row, chain_pairs, chain_room, chain_spare, linked_in, Rising, Placed, Sound};
 
 use rows::{Added, RowStore, StoreFault, checked};
 
@@ -53,6 +53,14 @@ fn place_of(cells: &[Cell], head: Option<u16>, object: u16) -> Place
         after = cell.next();
     }
     Place { before, after }
+}
+
+// The object of a cell.
+fn object_at(cells: &[Cell], at: u16) -> u16
+    requires { at < length cells.now }
+    ensures { result ≡ (cell_at cells.now at).object }
+{
+    cells[usize::from(at)].object
 }
 
 // The number of cells of the row that begins at `head`.
@@ -131,7 +139,7 @@ impl Chains {
         ensures { Found (chain_pairs self.now.cells.items self.now.heads v) start result }
     {
         let after = self.place_of(v, start).after?;
-        Some(self.cells[usize::from(after)].object)
+        Some(object_at(&self.cells, after))
     }
 
     fn holds(&self, v: u8, o: u8) -> bool

@@ -33,6 +33,10 @@ pub fn read_line<'a>(line: &'a str) -> Result<Option<Entry<'a>>, BadLine<'a>> {
     let Some(call) = words.next() else {
         return Ok(None);
     };
+    // before the rest is split: comments may be long
+    if call.starts_with('#') {
+        return Ok(None);
+    }
     let arguments = [words.next(), words.next(), words.next()];
     match (call, arguments) {
         ("load", [Some(number), Some(file), None]) => Ok(Some(Entry::Load {
@@ -44,7 +48,6 @@ pub fn read_line<'a>(line: &'a str) -> Result<Option<Entry<'a>>, BadLine<'a>> {
             unit: unit(number)?,
         })),
         ("unload", _) => Err(BadLine::Form("unload U")),
-        _ if call.starts_with('#') => Ok(None),
         _ => Err(BadLine::UnknownCall(call)),
     }
 }

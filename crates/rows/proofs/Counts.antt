@@ -1,11 +1,11 @@
 -- How many objects a row has and how many pairs a set of them, step by step; what a store may hold.
-use Rattle.std.proofs.Common.{◌≡◌, ℕ, zero, suc, ◌+◌, ◌<◌, ◌≤◌, Bool, true, false, cond, ltb, refl, ap, ◌∙◌, ⊎_elim, arith}
-use Rattle.std.proofs.lemmas.Bool.{cases_eq, and_parts, ltb-true}
+use Rattle.std.proofs.Common.{◌≡◌, ℕ, zero, suc, ◌+◌, ◌<◌, ◌≤◌, Bool, true, false, cond, ◌&&◌, eqb, ltb, refl, ap, ◌∙◌, ⊎_elim, arith}
+use Rattle.std.proofs.lemmas.Bool.{cases_eq, and_parts, ltb-true, eqb-true, or_cases}
 use Rattle.constraints.specs.Finite.{sum, count}
 use Rattle.constraints.specs.Rows.{Rows, empty, with_pair, pairs_below, total}
 use Rattle.constraints.proofs.Finite.{sum_same}
 use Rattle.constraints.proofs.Rows.{total_one_more, total_bound}
-use Rattle.rows.specs.Stores.{Inside, in_range}
+use Rattle.rows.specs.Stores.{Inside, in_range, Within}
 
 pub count_none : (row : ℕ → Bool) → count 0 row ≡ 0
 unfolding count sum
@@ -52,6 +52,23 @@ module _ (P : Rows) (v o : ℕ) (in_v : v < 256) (in_o : o < 256) (new : P v o �
   -- a set that lacks a pair has room for it
   pub total_below : total P < 65536
   total_below = omega (arith, total_with, total_bound (with_pair P v o))
+
+  -- one pair more
+  pub within_with : (n : ℕ) → Within n P → total P < n → Within n (with_pair P v o)
+  within_with n within free = record {
+    few = omega (arith, total_with);
+    inside = λ w x is. ⊎_elim
+        (λ old. within.inside w x old)
+        (λ this.
+        let both = and_parts (eqb w v) (eqb x o) this in
+        let same_v = eqb-true w v both.0 in
+        let same_o = eqb-true x o both.1 in
+        (omega arith, omega arith))
+        (or_cases (P w x) (eqb w v && eqb x o) is);
+  }
+
+pub within_empty : (n : ℕ) → Within n empty
+within_empty n = record { few = omega (arith, total_empty); inside = λ v o is. absurd (let z : ◌≡◌ {A = ℕ} 0 1 = cc in omega arith) }
 
 pub inside_parts : (v o : ℕ) → in_range v o ≡ true → Inside v o
 inside_parts v o is =
