@@ -1,36 +1,31 @@
 -- Pairs come to the queue at its end.
-use Rattle.std.proofs.Common.{◌≡◌, ℕ, ◌+◌, ◌<◌, ◌⊎◌, [], ◌∷◌, ◌++◌, length, get_or, sym, ap, ◌∙◌, inl, inr, ⊎_elim, arith}
-use Rattle.std.proofs.lemmas.Bool.{cases_lt}
-use Rattle.std.proofs.lemmas.List.{get_or_append_left, length-append}
-use Rattle.std.proofs.Math.Seq.{get_or-append_seam}
+use Rattle.std.proofs.Common.{◌≡◌, ℕ, ◌+◌, ◌<◌, ◌≢◌, ◌⊎◌, length, get_or, set, sym, ap, ◌∙◌, inl, inr, ⊎_elim, arith, get_or-set_other, get_or-set_same}
+use Rattle.std.proofs.lemmas.Bool.{cases_eq}
 use Rattle.difference.specs.declared.pending.Pair.{Pair}
 use Rattle.difference.specs.declared.pending.Pending.{Pending}
-use Rattle.difference.specs.Queue.{tail, pair_at, Pends, Pushed}
+use Rattle.difference.specs.Queue.{pair_at, Pends, Pushed}
 
-pub pushed : (q q' : Pending) (pair : Pair) → q'.pairs.items ≡ q.pairs.items ++ pair ∷ [] → q'.head ≡ q.head → Pushed q q' pair
-pushed q q' pair items head = record { stays = stays; comes = comes; only = only; head = head; tail = longer }
+pub pushed : (q q' : Pending) (pair : Pair) → q.tail < length q.pairs → q'.pairs ≡ set q.pairs q.tail pair → q'.head ≡ q.head → q'.tail ≡ q.tail + 1 → Pushed q q' pair
+pushed q q' pair room pairs head tail = record { stays = stays; comes = comes; only = only; head = head; tail = tail }
   where
-    longer : tail q' ≡ tail q + 1
-    longer = ap length items ∙ length-append q.pairs.items (pair ∷ [])
+    there : (i : ℕ) → i ≢ q.tail → pair_at q' i ≡ pair_at q i
+    there i ne = ap (λ l. get_or l i (record { variable = 0; object = 0 })) pairs ∙ get_or-set_other q.pairs q.tail i pair (record { variable = 0; object = 0 }) ne
 
-    there : (i : ℕ) → i < tail q → pair_at q' i ≡ pair_at q i
-    there i lt = ap (λ l. get_or l i (record { variable = 0; object = 0 })) items ∙ get_or_append_left q.pairs.items (pair ∷ []) (record { variable = 0; object = 0 }) i lt
-
-    here : pair_at q' (tail q) ≡ pair
-    here = ap (λ l. get_or l (tail q) (record { variable = 0; object = 0 })) items ∙ get_or-append_seam q.pairs.items pair [] (record { variable = 0; object = 0 })
+    here : pair_at q' q.tail ≡ pair
+    here = ap (λ l. get_or l q.tail (record { variable = 0; object = 0 })) pairs ∙ get_or-set_same q.pairs q.tail pair (record { variable = 0; object = 0 }) room
 
     stays : (x y : ℕ) → Pends q x y → Pends q' x y
     stays x y (i, from, below, is_x, is_y) =
-        (i, omega arith, omega (arith, longer), ap (λ p. p.variable) (there i below) ∙ is_x, ap (λ p. p.object) (there i below) ∙ is_y)
+        let ne : i ≢ q.tail = omega arith in
+        (i, omega arith, omega arith, ap (λ p. p.variable) (there i ne) ∙ is_x, ap (λ p. p.object) (there i ne) ∙ is_y)
 
     comes : Pends q' pair.variable pair.object
-    comes = (tail q, omega (arith, q.ordered), omega (arith, longer), ap (λ p. p.variable) here, ap (λ p. p.object) here)
+    comes = (q.tail, omega (arith, q.ordered), omega arith, ap (λ p. p.variable) here, ap (λ p. p.object) here)
 
     only : (x y : ℕ) → Pends q' x y → Pends q x y ⊎ ((x ≡ pair.variable) × (y ≡ pair.object))
     only x y (i, from, below, is_x, is_y) = ⊎_elim
-        (λ lt. inl (i, omega arith, lt, sym (ap (λ p. p.variable) (there i lt)) ∙ is_x, sym (ap (λ p. p.object) (there i lt)) ∙ is_y))
-        (λ ge.
-        let e : i ≡ tail q = omega (arith, longer) in
+        (λ e.
         let is : pair_at q' i ≡ pair = ap (pair_at q') e ∙ here in
         inr (sym is_x ∙ ap (λ p. p.variable) is, sym is_y ∙ ap (λ p. p.object) is))
-        (cases_lt i (tail q))
+        (λ ne. inl (i, omega arith, omega (arith, ne), sym (ap (λ p. p.variable) (there i ne)) ∙ is_x, sym (ap (λ p. p.object) (there i ne)) ∙ is_y))
+        (cases_eq i q.tail)

@@ -9,22 +9,22 @@ use Rattle.constraints.proofs.Rows.{total_bound, total_mono}
 use Rattle.walks.specs.Rules.{Rule}
 use Rattle.walks.proofs.Rules.{rule_grows, rule_less, meets_rule, rule_meets}
 use Rattle.walks.proofs.Fronts.{met_first, solves_first}
-use Rattle.arrayvec.specs.ArrayVec.{array_vec_len}
 use Rattle.difference.specs.declared.pending.Pair.{Pair}
 use Rattle.difference.specs.declared.pending.Pending.{Pending}
-use Rattle.difference.specs.Queue.{tail, Pends, Heads, Noted, Counted, Done, Ready, Idle}
+use Rattle.difference.specs.Queue.{Pends, Heads, Noted, Counted, Done, Ready, Idle}
 use Rattle.difference.specs.Handed.{Handed}
 use Rattle.difference.proofs.Handing.{Plus, rule_plus}
 use Rattle.difference.specs.Notes.{counted_then}
 
 -- pairs that may still be added, and pairs that wait
 unfoldable pub effort : Rows → Pending → ℕ
-effort P q = (65536 - total P) * 2 + (tail q - q.head)
+effort P q = (65536 - total P) * 2 + (q.tail - q.head)
 
 -- q₁ is q without its first pair
 pub record Advanced (q q₁ : Pending) : Type 0 where
   pub pairs : q₁.pairs ≡ q.pairs
   pub head : q₁.head ≡ q.head + 1
+  pub tail : q₁.tail ≡ q.tail
 
 -- a pair that is not pending any more is held already
 pub done_before : (n m : ℕ) (P P' : Rows) (q q' : Pending) → Noted n m P P' q q' → (x y : ℕ) → Done P' q' x y → T (P x y)
@@ -37,21 +37,18 @@ module _ (sys : System) (n m : ℕ) (pair : Pair) (P P' : Rows) (q q₁ q' : Pen
   abbrev o : ℕ
   o = pair.object
 
-  same_tail : tail q₁ ≡ tail q
-  same_tail = ap array_vec_len adv.pairs
-
   pub effort_falls : effort P' q' < effort P q
   unfolding effort
-  effort_falls = omega (arith, heads.some, adv.head, same_tail, a.head, a.counts, total_mono P P' a.grows, total_bound P', q'.ordered)
+  effort_falls = omega (arith, heads.some, adv.head, adv.tail, a.head, a.counts, total_mono P P' a.grows, total_bound P', q'.ordered)
 
   back : (x y : ℕ) → Pends q₁ x y → Pends q x y
   back x y (i, from, below, is_x, is_y) =
-      (i, omega (arith, adv.head), omega (arith, same_tail), rw adv.pairs at is_x, rw adv.pairs at is_y)
+      (i, omega (arith, adv.head), omega (arith, adv.tail), rw adv.pairs at is_x, rw adv.pairs at is_y)
 
   rest : (x y : ℕ) → Pends q x y → Pends q₁ x y ⊎ ((x ≡ v) × (y ≡ o))
   rest x y (i, from, below, is_x, is_y) = ⊎_elim
       (λ e. inr (sym (rw e at is_x) ∙ ap (λ p. p.variable) heads.is, sym (rw e at is_y) ∙ ap (λ p. p.object) heads.is))
-      (λ ne. inl (i, omega (arith, adv.head, ne), omega (arith, same_tail), rw adv.pairs is_x, rw adv.pairs is_y))
+      (λ ne. inl (i, omega (arith, adv.head, ne), omega (arith, adv.tail), rw adv.pairs is_x, rw adv.pairs is_y))
       (cases_eq i q.head)
 
   first_pends : Pends q v o
@@ -72,7 +69,7 @@ module _ (sys : System) (n m : ℕ) (pair : Pair) (P P' : Rows) (q q₁ q' : Pen
       record {
         short = rw a.same ready.short;
         held = a.held (λ x y p. ready.held x y (back x y p));
-        counted = counted_then n m P P' q₁ q' (omega (arith, same_tail, ready.counted)) a;
+        counted = counted_then n m P P' q₁ q' (omega (arith, adv.tail, ready.counted)) a;
         asked = λ j lt.
             let c = constraint sys j in
             let lt' : j < n = omega (arith, a.same, lt) in
@@ -107,5 +104,5 @@ ready_next sys i m P P' q q' i_in so_far idle a walked =
         (meets_rule sys.blocks (constraint sys j) (pairs P)
         (rw so_far (met_first sys i (least (first i sys)) (least_solves (first i sys)) j lt (omega arith))))
 
-pub idle_from : (P : Rows) (q : Pending) → tail q ≤ q.head → Counted P q → Idle P q
+pub idle_from : (P : Rows) (q : Pending) → q.tail ≤ q.head → Counted P q → Idle P q
 idle_from P q past counted = record { none = λ v o (i, from, below, is_x, is_y). omega arith; counted = counted }

@@ -66,8 +66,6 @@ fn run<S: RowStore>(list: &ConstraintList, work: &mut Difference<S>) -> Result<(
 }
 
 impl<S: RowStore> Propagation for Difference<S> {
-    type Store = S;
-
     ghost rows = { λ d. S.RowStore.pairs d.store };
 
     ghost limit = { λ d. S.RowStore.room d.store };
@@ -86,8 +84,20 @@ impl<S: RowStore> Propagation for Difference<S> {
         run(list, self)
     }
 
-    fn store(&self) -> &S {
-        &self.store
+    fn has(&self, v: u16, o: u16) -> Result<bool, StoreFault> {
+        self.store.has(v, o)
+    }
+
+    fn next(&self, v: u16, from: u16) -> Result<Option<u16>, StoreFault> {
+        Grower::next(self, v, from)
+    }
+
+    fn size(&self, v: u16) -> Result<u16, StoreFault> {
+        self.store.size(v)
+    }
+
+    fn room(&self) -> u32 {
+        self.store.room()
     }
 }
 

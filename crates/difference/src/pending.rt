@@ -2,9 +2,6 @@
 mod calls;
 
 ghost use Rattle.std.specs.Prelude.{◌≤◌};
-ghost use Rattle.arrayvec.specs.ArrayVec.{array_vec_len};
-
-use arrayvec::ArrayVec;
 
 // A variable, and an object of its row.
 #[derive(Clone, Copy, PartialEq, Eq, Debug, Default)]
@@ -15,10 +12,12 @@ pub struct Pair {
 
 #[derive(Debug, Drop)]
 pub struct Pending {
-    // all pairs that came since the queue was made or cleared
-    pairs: ArrayVec<Pair, 65536>,
-    // the pairs from `head` on wait
+    // the first `tail` of them came since the queue was made or cleared
+    // Stays: an array, since a vector of fixed capacity writes blanks as it lets pairs go.
+    pairs: [Pair; 65536],
+    // the pairs from `head` up to `tail` wait
     head: usize,
-    ghost ordered: { head ≤ array_vec_len pairs },
-    ghost inside: { array_vec_len pairs ≤ 65536 },
+    tail: usize,
+    ghost ordered: { head ≤ tail },
+    ghost inside: { tail ≤ 65536 },
 }

@@ -8,16 +8,15 @@ ghost use Rattle.constraints.specs.Rows.{Rows, empty, total};
 ghost use Rattle.constraints.specs.Constraint.{first};
 ghost use Rattle.constraints.specs.Least.{least};
 ghost use Rattle.constraints.specs.Lists.{system_of};
+ghost use Rattle.rows.specs.Stores.{HasOf, NextOf, SizeOf};
 ghost use Rattle.solvers.specs.Taking.{Took};
 
 use constraints::ConstraintList;
-use rows::{RowStore, StoreFault};
+use rows::StoreFault;
 pub use solver::Solver;
 
 // A way to bring rows from the smallest solution of the first words to that with one word more.
 pub trait Propagation {
-    type Store: RowStore;
-
     ghost rows: { Self → Rows };
 
     // The room of the rows.
@@ -41,8 +40,15 @@ pub trait Propagation {
         ensures takes { Took (limit self.old) (system_of list.now) i (rows self.new) (idle self.new) result }
         ensures fixed { limit self.new ≡ limit self.old };
 
-    // The store of the rows.
-    fn store(&self) -> &Self::Store
-        ensures rows { Self.Store.pairs result.now ≡ rows self.now }
-        ensures room { Self.Store.room result.now ≡ limit self.now };
+    fn has(&self, v: u16, o: u16) -> Result<bool, StoreFault>
+        ensures { HasOf (rows self.now) v o result };
+
+    fn next(&self, v: u16, from: u16) -> Result<Option<u16>, StoreFault>
+        ensures { NextOf (rows self.now) v from result };
+
+    fn size(&self, v: u16) -> Result<u16, StoreFault>
+        ensures { SizeOf (rows self.now) v result };
+
+    fn room(&self) -> u32
+        ensures { result ≡ limit self.now };
 }

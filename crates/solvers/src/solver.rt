@@ -9,7 +9,6 @@ ghost use Rattle.solvers.specs.Roominess.{solver_roomy};
 use crate::Propagation;
 use constraints::ConstraintList;
 use engine::{Engine, EngineFault, Stopped, gathering};
-use rows::RowStore;
 
 // Takes the words in, one by one. The word at which the store is full is the earliest whose list does not fit:
 // before it the rows were those of a list that does.
@@ -95,20 +94,20 @@ impl<P: Propagation> Engine for Solver<P> {
         if self.list.length_of(usize::from(o)) == 0 {
             return Err(EngineFault::Outside);
         }
-        Ok(self.work.store().has(v, o)?)
+        Ok(self.work.has(v, o)?)
     }
 
     fn next(&mut self, v: u16, from: u16) -> Result<Option<u16>, EngineFault> {
         self.admit(v)?;
-        Ok(self.work.store().next(v, from)?)
+        Ok(self.work.next(v, from)?)
     }
 
     fn size(&mut self, v: u16) -> Result<u16, EngineFault> {
         self.admit(v)?;
-        Ok(self.work.store().size(v)?)
+        Ok(self.work.size(v)?)
     }
 
     fn room(&self) -> u32 {
-        self.work.store().room()
+        self.work.room()
     }
 }

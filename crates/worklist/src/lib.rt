@@ -89,8 +89,6 @@ fn run<S: RowStore>(list: &ConstraintList, work: &mut Worklist<S>) -> Result<(),
 }
 
 impl<S: RowStore> Propagation for Worklist<S> {
-    type Store = S;
-
     ghost rows = { λ w. S.RowStore.pairs w.store };
 
     ghost limit = { λ w. S.RowStore.room w.store };
@@ -108,8 +106,20 @@ impl<S: RowStore> Propagation for Worklist<S> {
         run(list, self)
     }
 
-    fn store(&self) -> &S {
-        &self.store
+    fn has(&self, v: u16, o: u16) -> Result<bool, StoreFault> {
+        self.store.has(v, o)
+    }
+
+    fn next(&self, v: u16, from: u16) -> Result<Option<u16>, StoreFault> {
+        Grower::next(self, v, from)
+    }
+
+    fn size(&self, v: u16) -> Result<u16, StoreFault> {
+        self.store.size(v)
+    }
+
+    fn room(&self) -> u32 {
+        self.store.room()
     }
 }
 

@@ -1,4 +1,4 @@
-use Rattle.std.proofs.Common.{◌≡◌, ℕ, ◌<◌, List, length, take, get_or, ap, ◌∙◌, ⊎_elim, arith}
+use Rattle.std.proofs.Common.{rules, ◌≡◌, ℕ, ◌<◌, List, length, take, get_or, ap, ◌∙◌, ⊎_elim, arith}
 use Rattle.std.proofs.lemmas.Bool.{cases_eq}
 use Rattle.std.proofs.lemmas.List.{get_or-take, length-take}
 use Rattle.std.proofs.lemmas.Result.{err_from_is_err_and}
@@ -10,18 +10,21 @@ use Rattle.walks.proofs.Fronts.{word_below, met_first}
 use Rattle.difference.proofs.Handing.{handed_moved}
 use Rattle.difference.proofs.spread.hand_on.Goals as goal
 
--- the word at place j of the first n is the word at place j
-at : (words ws : List ℕ) (n j : ℕ) (c : Constraint) → words ≡ ws → j < length (take n words) → c ≡ decode (get_or (take n words) j 0) → c ≡ decode (get_or ws j 0)
-at words ws n j c same lt is =
-    is ∙ ap decode (get_or-take n words j 0 (omega (arith, length-take n words))) ∙ ap (λ l. decode (get_or l j 0)) same
+-- the words gone over are the first n, so the word at place j of them is the word at place j
+at : (words ws front : List ℕ) (n j : ℕ) (c : Constraint) → words ≡ ws → j < length front → c ≡ decode (get_or front j 0) → front ≡ take n words
+    → (c ≡ decode (get_or ws j 0)) × (j < n)
+at words ws front n j c same lt is first =
+    let lt' : j < length (take n words) = rw first at lt in
+    let below : j < n = omega (arith, length-take n words, lt') in
+    (is ∙ ap (λ l. decode (get_or l j 0)) first ∙ ap decode (get_or-take n words j 0 below) ∙ ap (λ l. decode (get_or l j 0)) same, below)
 
 pub spread-requires : goal.spread-requires
 spread-requires g c =
     let sys = system_of c.args.list.now in
     let j = c.loop-word.word-index in
-    let is : c.decode.result ≡ constraint sys j = at c.words.result.now sys.words c.args.n j _ c.words.ensures.value c.loop-word-test.true c.decode.ensures.value in
+    let (is, lt) : (c.decode.result ≡ constraint sys j) × (j < c.args.n) = at c.words.result.now sys.words _ c.args.n j _ c.words.ensures.value c.loop-word-test.true c.decode.ensures.value (search rules) in
     record {
-      known = rw is (word_below sys c.words.ensures.valid j (omega (arith, length-take c.args.n c.words.result.now, c.requires.short, c.loop-word-test.true)));
+      known = rw is (word_below sys c.words.ensures.valid j (omega (arith, c.requires.short)));
       held = c.loop-word.invariant.0.more _ _ c.requires.held;
     }
 
@@ -29,8 +32,7 @@ pub returns-in_err-spread : goal.returns-in_err-spread
 returns-in_err-spread g c =
     let sys = system_of c.args.list.now in
     let j = c.loop-word.word-index in
-    let is : c.decode.result ≡ constraint sys j = at c.words.result.now sys.words c.args.n j _ c.words.ensures.value c.loop-word-test.true c.decode.ensures.value in
-    let lt : j < c.args.n = omega (arith, length-take c.args.n c.words.result.now, c.loop-word-test.true) in
+    let (is, lt) : (c.decode.result ≡ constraint sys j) × (j < c.args.n) = at c.words.result.now sys.words _ c.args.n j _ c.words.ensures.value c.loop-word-test.true c.decode.ensures.value (search rules) in
     let exit = err_from_is_err_and c.from_residual.result c.from_residual.ensures.1 in
     grown_refused (g.met.G.Grower.onward sys) _ _ _ _ _ c.loop-word.invariant.0
     (λ R m h. rw is (met_first sys c.args.n R m j lt (omega (arith, c.requires.short))))
@@ -41,8 +43,7 @@ loop-word-preserved g c =
     let sys = system_of c.args.list.now in
     let j = c.loop-word.word-index in
     let pair = c.args.pair in
-    let is : c.decode.result ≡ constraint sys j = at c.words.result.now sys.words c.args.n j _ c.words.ensures.value c.loop-word-test.true c.decode.ensures.value in
-    let lt : j < c.args.n = omega (arith, length-take c.args.n c.words.result.now, c.loop-word-test.true) in
+    let (is, lt) : (c.decode.result ≡ constraint sys j) × (j < c.args.n) = at c.words.result.now sys.words _ c.args.n j _ c.words.ensures.value c.loop-word-test.true c.decode.ensures.value (search rules) in
     let done = c.in_ok-spread.ensures in
     let before = c.loop-word.invariant.0 in (
       grows_then (g.met.G.Grower.onward sys) _ _ _ _ _ before
