@@ -30,13 +30,12 @@ pub enum Callee {
     Through(Place),
 }
 
-// Up to six places.
+// Up to six places: the first `count`, or all where it is larger.
 #[derive(Clone, Copy)]
 pub struct Arguments {
     // Stays: an array with its count, since items are Copy and a vector of fixed capacity is not.
-    places: [Place; 6],
-    count: usize,
-    ghost few: { count ≤ 6 },
+    pub places: [Place; 6],
+    pub count: usize,
 }
 
 impl Arguments {
@@ -60,21 +59,21 @@ impl Arguments {
         ensures all { result ≡ length (given self.now) }
         ensures few { result ≤ 6 }
     {
-        self.count
+        self.count.min(6)
     }
 
     pub fn as_slice(&self) -> &[Place]
         ensures all { result.now ≡ given self.now }
         ensures few { length result.now ≤ 6 }
     {
-        &self.places[..self.count]
+        &self.places[..self.len()]
     }
 
     // One place more, up to six.
     pub fn push(self, place: Place) -> Option<Self>
         ensures { MatchOption result (6 ≤ length (given self)) (λ more. (length (given self) < 6) × (given more ≡ given self ++ place ∷ [])) }
     {
-        if self.count == 6 {
+        if self.count >= 6 {
             return None;
         }
         let mut places = self.places;

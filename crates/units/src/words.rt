@@ -1,5 +1,6 @@
 // The words of one statement.
 ghost use Rattle.std.specs.Prelude.{◌≡◌, ℕ, ◌+◌, ◌<◌, ◌≤◌, List, map, length};
+ghost use Rattle.std.specs.List.{slice_get};
 ghost use Rattle.lexemes.specs.Texts.{name_in_text};
 ghost use Rattle.grammar.specs.Grammar.{Place as AnyPlace};
 ghost use Rattle.grammar.specs.Meanings.{place_in, callee_in, call_in, value_in, item_in, target_in};
@@ -108,6 +109,24 @@ impl<'a, 'b, N: FirstVariables> Reader<'a, 'b, N> {
         words
     }
 
+    // Word i, from 0, of such a call.
+    fn call_word(&self, target: Option<Place>, call: Call, i: usize) -> Option<u32>
+        ensures { result ≡ slice_get (map (word (N.first self.now.names.now)) (call_words (target_in self.now.text.now target) (call_in self.now.text.now call))) i }
+    {
+        let arguments = call.arguments.as_slice();
+        let count = arguments.len();
+        if i < count {
+            return Some(self.argument_word(call.callee, arguments[i], i));
+        }
+        if i > count {
+            return None;
+        }
+        match target {
+            Some(place) => Some(self.result_word(place, call.callee)),
+            None => None,
+        }
+    }
+
     // The words of a statement, by the first variable of each name.
     pub fn words_of(&self, item: Item) -> ArrayVec<u32, 7>
         ensures { result.items ≡ map (word (N.first self.now.names.now)) (words_of (item_in self.now.text.now item)) }
@@ -141,6 +160,19 @@ impl<'a, 'b, N: FirstVariables> Reader<'a, 'b, N> {
         let mut words = ArrayVec::new();
         words.push(encoded(constraint));
         words
+    }
+}
+
+// Word i, from 0, of a statement, by the first variable of each name.
+pub fn word_at<N: FirstVariables>(text: &[u8], names: &N, item: Item, i: usize) -> Option<u32>
+    ensures { result ≡ slice_get (map (word (N.first names.now)) (words_of (item_in text.now item))) i }
+{
+    let reader = Reader { text, names };
+    match item {
+        Item::Assign(target, Value::Returned(call)) => reader.call_word(Some(target), call, i),
+        Item::Invoke(call) => reader.call_word(None, call, i),
+        _ if i < word_count(item) => reader.words_of(item).as_slice().get(i).copied(),
+        _ => None,
     }
 }
 
