@@ -1,4 +1,5 @@
 pub mod Refusals
 pub mod Books
 pub mod Histories
+pub mod Places
 pub mod States

@@ -5,15 +5,15 @@ ghost use Rattle.analyser.specs.Books.{new_book, load_refusal, unload_refusal, l
 ghost use Rattle.analyser.specs.States.{book_of};
 
 use crate::Refusal;
+use crate::place::Place;
 use declarations::check::{DeclarationMemory, check_unit};
-use grammar::unit_text::UnitText;
 
 const UNITS: usize = 8;
 
 // For unit numbers 0 to 7 the standing text or none. All memory is taken at making: no call allocates.
 #[derive(Drop)]
 pub struct Analyser {
-    texts: [Option<UnitText>; UNITS],
+    places: [Place; UNITS],
     // Stays: a flag beside the texts, since they stand whether settled or not.
     settled: bool,
     memory: DeclarationMemory,
@@ -24,7 +24,7 @@ impl Analyser {
         ensures { book_of result ≡ new_book }
     {
         Analyser {
-            texts: [None; UNITS],
+            places: [Place::free(); UNITS],
             settled: false,
             memory: DeclarationMemory::new(),
         }
@@ -36,13 +36,13 @@ impl Analyser {
         ensures replies { result ≡ refused_or (load_refusal (book_of self.old) unit text.now) tt }
         ensures after { book_of self.new ≡ load_book (book_of self.old) unit text.now }
     {
-        let place = unit as usize;
-        let standing = self.texts.get(place).ok_or(Refusal::NoSuchUnit)?;
-        if standing.is_some() {
+        let unit = unit as usize;
+        let place = self.places.get(unit).ok_or(Refusal::NoSuchUnit)?;
+        if place.is_standing() {
             return Err(Refusal::UnitStands);
         }
         check_unit(text, &mut self.memory)?;
-        self.texts[place] = Some(UnitText::try_from(text)?);
+        self.places[unit].put(text);
         self.settled = false;
         Ok(())
     }
@@ -53,12 +53,12 @@ impl Analyser {
         ensures replies { result ≡ refused_or (unload_refusal (book_of self.old) unit) tt }
         ensures after { book_of self.new ≡ unload_book (book_of self.old) unit }
     {
-        let place = unit as usize;
-        let standing = self.texts.get(place).ok_or(Refusal::NoSuchUnit)?;
-        if standing.is_none() {
+        let unit = unit as usize;
+        let place = self.places.get(unit).ok_or(Refusal::NoSuchUnit)?;
+        if !place.is_standing() {
             return Err(Refusal::NothingStands);
         }
-        self.texts[place] = None;
+        self.places[unit].strike();
         self.settled = false;
         Ok(())
     }

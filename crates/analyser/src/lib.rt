@@ -3,6 +3,7 @@
 
 mod analyser;
 mod history;
+mod place;
 mod refusal;
 #[cfg(test)]
 mod tests;
