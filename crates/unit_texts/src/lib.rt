@@ -32,9 +32,12 @@ impl FirstVariables for Valves {
 #[cfg(test)]
 mod tests {
     use crate::Valves;
+    use grammar::item::{Arguments, Call, Callee, Item, Place, Slot};
     use grammar::reader::check_grammar;
+    use lexemes::lexeme::Span;
     use units::calls::{call_pointer, count_calls};
     use units::listing::{ListedWord, count_words, list_words};
+    use units::words::{word_at, word_count};
 
     const VALVES: &[u8] =
         b"fun open 1; fun shut 1; var v; var h; var x;\nh = &open; h = &shut;\nx = (*h)(v);";
@@ -96,6 +99,30 @@ mod tests {
         assert_eq!(rt; out[4].word, 0x8800_8007);
         assert_eq!(rt; out[4].at, 67);
         assert_eq!(rt; out[5].word, 9);
+    }
+
+    // A call that no text gives: its count is past its six places.
+    #[test]
+    fn words_of_a_literal(rt: HostRuntime) {
+        let name = Span { from: 0, to: 1 };
+        let place = Place {
+            base: name,
+            slot: Slot::Bare,
+        };
+        let arguments = Arguments {
+            places: [place; 6],
+            count: 9,
+        };
+        let call = Call {
+            callee: Callee::Direct(name),
+            arguments,
+        };
+        let item = Item::Invoke(call);
+        assert_eq!(rt; arguments.len(), 6);
+        assert_eq!(rt; word_count(item), 6);
+        assert_eq!(rt; word_at(b"v", &Valves, item, 0), Some(0x4000_8006));
+        assert_eq!(rt; word_at(b"v", &Valves, item, 5), Some(0x4000_d006));
+        assert_eq!(rt; word_at(b"v", &Valves, item, 6), None);
     }
 
     #[test]
