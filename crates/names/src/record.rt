@@ -6,6 +6,9 @@ ghost use Rattle.names.specs.Notes.{name_in, fresh_note, stands, raised, lowered
 
 use crate::short_name::ShortName;
 
+// The number of no variable: a name that is placed there has no block.
+pub const NOWHERE: u16 = 256;
+
 // What is known of a name.
 #[derive(Clone, Copy)]
 pub struct Note {
@@ -16,7 +19,7 @@ pub struct Note {
     // whether one of them defines it without extern
     pub defined: bool,
     // the first variable of its block, once that is laid out
-    pub first: Option<u8>,
+    pub first: Option<u16>,
 }
 
 #[derive(Clone, Copy)]
@@ -90,7 +93,7 @@ impl NameRecord {
     }
 
     // The name's block begins at this variable, or it has none.
-    pub(crate) fn place(&mut self, first: Option<u8>)
+    pub(crate) fn place(&mut self, first: Option<u16>)
         ensures named { self.new.name ≡ self.old.name }
         ensures noted { self.new.note ≡ placed first self.old.note }
     {

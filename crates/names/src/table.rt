@@ -3,7 +3,7 @@ ghost use Rattle.std.specs.Prelude.{◌≡◌, ◌%◌};
 ghost use Rattle.names.specs.Tables.{Sound};
 
 use crate::asked::Asked;
-use crate::record::{NameRecord, Note, change_record, unplace};
+use crate::record::{NOWHERE, NameRecord, Note, change_record, unplace};
 use crate::short_name::LONGEST_NAME;
 use numbering::{KeyBank, hash_items, lookup};
 
@@ -177,12 +177,12 @@ impl NameTable {
         unplace(&mut self.records);
     }
 
-    // The known name's block begins at this variable, of 0 to 255; at another number it has no block.
+    // The known name's block begins at this variable; at `NOWHERE` it has none.
     pub fn place(&mut self, name: &[u8], first: u16)
         ensures after { notes self.new ≡ with_note (notes self.old) name.now (then_note (λ k. Some (placed (variable_at first) k)) (notes self.old name.now)) }
         ensures variables { variables_of self.new ≡ variables_of self.old }
     {
-        let variable = u8::try_from(first).ok();
+        let variable = (first != NOWHERE).then_some(first);
         self.update(name, |record| record.place(variable));
     }
 }
