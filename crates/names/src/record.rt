@@ -1,5 +1,5 @@
 // One name's record.
-ghost use Rattle.std.specs.Prelude.{◌≡◌, ◌<◌, ◌≤◌, [], length, map, slice_index_or, slice_set};
+ghost use Rattle.std.specs.Prelude.{◌≡◌, ◌<◌, ◌≤◌, [], ◌++◌, length, map, take, drop, slice_index_or, slice_set};
 ghost use Rattle.std.specs.Fn.{FnOnceReturnsAtMut};
 ghost use Rattle.names.specs.declared.record.NameRecord.{NameRecord as AnyRecord};
 ghost use Rattle.names.specs.Notes.{name_in, fresh_note, stands, raised, lowered, placed, unplaced};
@@ -114,11 +114,12 @@ pub(crate) fn change_record<F: FnOnce(&mut NameRecord)>(
     change(&mut records[p]);
 }
 
-// No block is laid out for any of the names.
-pub(crate) fn unplace(records: &mut [NameRecord])
-    ensures { records.new ≡ map unplaced records.old }
+// No block is laid out for any of the first so many names.
+pub(crate) fn unplace(records: &mut [NameRecord], used: usize)
+    requires { used ≤ length records.old }
+    ensures { records.new ≡ map unplaced (take used records.old) ++ drop used records.old }
 {
-    for known in records {
+    for known in &mut records[..used] {
         known.place(None);
     }
 }
