@@ -151,6 +151,9 @@ pub then_cond : (to : Note → Option Note) (b : Bool) (k : Note) (o : Option No
 then_cond to true k o = refl
 then_cond to false k o = refl
 
+pub rewritten_none : (to : Note → Option Note) → Rewritten [] [] to
+rewritten_none to = record { noted = λ n. refl; totals = λ w. refl }
+
 -- one record more, of a new name
 pub rewritten_more : (to : Note → Option Note) (bs cs more : List NameRecord) (r : NameRecord) → Rewritten bs cs to
     → note_of bs (name_in r) ≡ None → Updated cs more (name_in r) (to r.note) → Rewritten (bs ++ r ∷ []) more to

@@ -1,7 +1,7 @@
 -- The records rewritten one by one.
-use Rattle.std.proofs.Common.{◌≡◌, ℕ, ◌+◌, ◌<◌, ◌≤◌, Bool, true, false, cond, List, [], ◌∷◌, ◌++◌, map, length, get_or, take, Some, None, Option, sym, refl, ap, ◌∙◌, subst, arith}
+use Rattle.std.proofs.Common.{◌≡◌, ℕ, ◌+◌, ◌<◌, ◌≤◌, Bool, true, false, cond, List, [], ◌∷◌, ◌++◌, map, length, get_or, take, drop, Some, None, Option, sym, refl, ap, ◌∙◌, subst, arith}
 use Rattle.std.specs.Str.{bytes_eq}
-use Rattle.std.proofs.lemmas.List.{take_more, take-map, length-map}
+use Rattle.std.proofs.lemmas.List.{take_at, take_more, length-append, length-drop, length-map}
 use Rattle.names.specs.declared.record.Note.{Note}
 use Rattle.names.specs.declared.record.NameRecord.{NameRecord}
 use Rattle.names.specs.Notes.{name_in, note_of, total, width, weight, stands, standing, placed, unplaced, then_note, Rewritten, Updated}
@@ -82,13 +82,16 @@ unplaced_widths [] = refl
 unplaced_widths (r ∷ rs) = ap (λ w. width r.note + w) (unplaced_widths rs)
 
 module _ {records : List NameRecord} {used variables : ℕ} {heads links : List (Option ℕ)} (s : Sound records used variables heads links) where
-  pub sound_unplaced : Sound (map unplaced records) used variables heads links
+  pub unplaced_in_use : take used (map unplaced (take used records) ++ drop used records) ≡ map unplaced (take used records)
+  unplaced_in_use = take_at (map unplaced (take used records)) (drop used records) used (length-map (take used records) unplaced ∙ used_long s)
+
+  pub sound_unplaced : Sound (map unplaced (take used records) ++ drop used records) used variables heads links
   sound_unplaced =
-      let first = take-map unplaced used records in
+      let sum = length-append (map unplaced (take used records)) (drop used records) in
       record {
         few = s.few;
-        long = length-map records unplaced ∙ s.long;
-        index = subst (λ ns. Index ns heads links) (sym (ap names_of first ∙ unplaced_names (take used records))) s.index;
-        counted = s.counted ∙ sym (ap (total width) first ∙ unplaced_widths (take used records));
+        long = omega (arith, sum, length-map (take used records) unplaced, used_long s, length-drop used records, s.few, s.long);
+        index = subst (λ ns. Index ns heads links) (sym (ap names_of unplaced_in_use ∙ unplaced_names (take used records))) s.index;
+        counted = s.counted ∙ sym (ap (total width) unplaced_in_use ∙ unplaced_widths (take used records));
         room = s.room;
       }

@@ -1,5 +1,5 @@
 -- The table: its first records are in use, and indexed. What a mention replies, and leaves known of the name.
-use Rattle.std.specs.Prelude.{◌≡◌, ℕ, ◌+◌, ◌≤◌, Bool, cond, not, ◌&&◌, List, map, length, take, Some, None, Ok, Err, Option, Result, ◌==◌, nat_le, nat_lt}
+use Rattle.std.specs.Prelude.{◌≡◌, ℕ, ◌+◌, ◌≤◌, Bool, cond, not, ◌&&◌, List, map, length, take, Some, None, Ok, Err, Option, Result, ◌==◌, nat_le}
 use Rattle.names.specs.declared.record.Note.{Note}
 use Rattle.names.specs.declared.record.NameRecord.{NameRecord}
 use Rattle.names.specs.declared.table.TableFull.{TableFull}
@@ -31,9 +31,9 @@ abbrev pub mention_adds : Option Note → ℕ → List ℕ → ℕ → ℕ
 mention_adds (Some k) variables n slots = 0
 mention_adds None variables n slots = cond (enters variables n slots) (slots + 1) 0
 
--- the variable of a number, if it is one of a variable
+-- the variable of a number; 256 is that of none
 abbrev pub variable_at : ℕ → Option ℕ
-variable_at v = cond (nat_lt v 256) (Some v) None
+variable_at v = cond (v == 256) None (Some v)
 
 -- a record is changed, and keeps its name and its slots
 pub record OfSameName (before after : NameRecord) : Type 0 where

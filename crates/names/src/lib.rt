@@ -6,5 +6,5 @@ mod record;
 mod short_name;
 mod table;
 
-pub use record::Note;
+pub use record::{NOWHERE, Note};
 pub use table::{NameTable, TableFull};

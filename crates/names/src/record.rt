@@ -1,10 +1,13 @@
 // One name's record.
-ghost use Rattle.std.specs.Prelude.{◌≡◌, ◌<◌, ◌≤◌, [], length, map, slice_index_or, slice_set};
+ghost use Rattle.std.specs.Prelude.{◌≡◌, ◌<◌, ◌≤◌, [], ◌++◌, length, map, take, drop, slice_index_or, slice_set};
 ghost use Rattle.std.specs.Fn.{FnOnceReturnsAtMut};
 ghost use Rattle.names.specs.declared.record.NameRecord.{NameRecord as AnyRecord};
 ghost use Rattle.names.specs.Notes.{name_in, fresh_note, stands, raised, lowered, placed, unplaced};
 
 use crate::short_name::ShortName;
+
+// The number of no variable: a name that is placed there has no block.
+pub const NOWHERE: u16 = 256;
 
 // What is known of a name.
 #[derive(Clone, Copy)]
@@ -16,7 +19,7 @@ pub struct Note {
     // whether one of them defines it without extern
     pub defined: bool,
     // the first variable of its block, once that is laid out
-    pub first: Option<u8>,
+    pub first: Option<u16>,
 }
 
 #[derive(Clone, Copy)]
@@ -90,7 +93,7 @@ impl NameRecord {
     }
 
     // The name's block begins at this variable, or it has none.
-    pub(crate) fn place(&mut self, first: Option<u8>)
+    pub(crate) fn place(&mut self, first: Option<u16>)
         ensures named { self.new.name ≡ self.old.name }
         ensures noted { self.new.note ≡ placed first self.old.note }
     {
@@ -111,11 +114,12 @@ pub(crate) fn change_record<F: FnOnce(&mut NameRecord)>(
     change(&mut records[p]);
 }
 
-// No block is laid out for any of the names.
-pub(crate) fn unplace(records: &mut [NameRecord])
-    ensures { records.new ≡ map unplaced records.old }
+// No block is laid out for any of the first so many names.
+pub(crate) fn unplace(records: &mut [NameRecord], used: usize)
+    requires { used ≤ length records.old }
+    ensures { records.new ≡ map unplaced (take used records.old) ++ drop used records.old }
 {
-    for known in records {
+    for known in &mut records[..used] {
         known.place(None);
     }
 }

@@ -3,7 +3,7 @@ ghost use Rattle.std.specs.Prelude.{◌≡◌, ◌%◌};
 ghost use Rattle.names.specs.Tables.{Sound};
 
 use crate::asked::Asked;
-use crate::record::{NameRecord, Note, change_record, unplace};
+use crate::record::{NOWHERE, NameRecord, Note, change_record, unplace};
 use crate::short_name::LONGEST_NAME;
 use numbering::{KeyBank, hash_items, lookup};
 
@@ -33,7 +33,7 @@ pub struct NameTable {
 }
 
 impl NameTable {
-    ghost use Rattle.std.specs.Prelude.{◌≡◌, ℕ, ◌+◌, ◌<◌, ◌≤◌, List, [], ◌∷◌, ◌++◌, map, Some, None, MatchOption, is_some};
+    ghost use Rattle.std.specs.Prelude.{◌≡◌, ℕ, ◌+◌, ◌<◌, ◌≤◌, List, [], ◌∷◌, ◌++◌, map, Some, None, MatchOption, is_some, slice_index_or};
     ghost use Rattle.std.specs.Fn.{FnOnceReturnsAtMut};
     ghost use Rattle.names.specs.declared.record.NameRecord.{NameRecord as AnyRecord};
     ghost use Rattle.names.specs.Notes.{name_in, note_of, width, total, weight, lowered, standing, placed, then_note, with_note, sum_over, Lists, Updated};
@@ -96,7 +96,9 @@ impl NameTable {
     fn append(&mut self, last: NameRecord)
         requires unknown { notes self.old (name_in last) ≡ None }
         requires room { variables_of self.old + width last.note ≤ 256 }
-        ensures { held self.new ≡ held self.old ++ last ∷ [] }
+        ensures appended { held self.new ≡ held self.old ++ last ∷ [] }
+        ensures used { self.new.used ≡ self.old.used + 1 }
+        ensures rest { (j : ℕ) (d : AnyRecord) → self.old.used < j → slice_index_or self.new.records j d ≡ slice_index_or self.old.records j d }
     {
         let at = self.used;
         let bucket = bucket_of(hash_items(last.name()));
@@ -160,11 +162,14 @@ impl NameTable {
         ensures after { (n : List ℕ) → notes self.new n ≡ then_note standing (notes self.old n) }
         ensures variables { variables_of self.new ≡ total (λ k. weight width (standing k)) (held self.old) }
     {
-        let before = *self;
-        *self = NameTable::new();
-        for known in &before.records[..before.used] {
+        let used = self.used;
+        self.used = 0;
+        self.variables = 0;
+        self.heads = [None; 256];
+        for i in 0..used {
+            let known = self.records[i];
             if known.stands() {
-                self.append(*known);
+                self.append(known);
             }
         }
     }
@@ -174,15 +179,15 @@ impl NameTable {
         ensures after { (n : List ℕ) → notes self.new n ≡ then_note (λ k. Some (placed None k)) (notes self.old n) }
         ensures variables { variables_of self.new ≡ variables_of self.old }
     {
-        unplace(&mut self.records);
+        unplace(&mut self.records, self.used);
     }
 
-    // The known name's block begins at this variable, of 0 to 255; at another number it has no block.
+    // The known name's block begins at this variable; at `NOWHERE` it has none.
     pub fn place(&mut self, name: &[u8], first: u16)
         ensures after { notes self.new ≡ with_note (notes self.old) name.now (then_note (λ k. Some (placed (variable_at first) k)) (notes self.old name.now)) }
         ensures variables { variables_of self.new ≡ variables_of self.old }
     {
-        let variable = u8::try_from(first).ok();
+        let variable = (first != NOWHERE).then_some(first);
         self.update(name, |record| record.place(variable));
     }
 }

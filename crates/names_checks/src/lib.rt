@@ -3,7 +3,7 @@
 
 #[cfg(test)]
 mod tests {
-    use names::NameTable;
+    use names::{NOWHERE, NameTable};
 
     // A call on the table, for a name of one byte.
     #[derive(Clone, Copy)]
@@ -36,7 +36,7 @@ mod tests {
     }
 
     // The first variable of the name's block, if it has one, and if it is known.
-    fn first(table: &NameTable, name: &[u8]) -> Option<Option<u8>> {
+    fn first(table: &NameTable, name: &[u8]) -> Option<Option<u16>> {
         table.find(name).map(|note| note.first)
     }
 
@@ -83,6 +83,11 @@ mod tests {
         table.place(b"p", 7);
         table.place(b"q", 8);
         assert_eq!(rt; first(&table, b"p"), Some(Some(7)));
+        table.place(b"p", 300);
+        assert_eq!(rt; first(&table, b"p"), Some(Some(300)));
+        table.place(b"p", NOWHERE);
+        assert_eq!(rt; first(&table, b"p"), Some(None));
+        table.place(b"p", 7);
         table.unplace_all();
         assert_eq!(rt; first(&table, b"p"), Some(None));
     }

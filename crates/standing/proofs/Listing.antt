@@ -1,9 +1,9 @@
 -- The words of the standing units, one unit after another.
-use Rattle.std.proofs.Common.{◌≡◌, ℕ, zero, suc, ◌+◌, ◌<◌, ◌≤◌, List, [], ◌∷◌, ◌++◌, map, length, get_or, take, set, Some, None, Option, unwrap_or, sym, refl, ap, ◌∙◌, inl, inr, append_assoc, arith}
+use Rattle.std.proofs.Common.{◌≡◌, ℕ, zero, suc, ◌+◌, ◌<◌, ◌≤◌, cond, ltb, List, [], ◌∷◌, ◌++◌, map, length, get_or, take, set, Some, None, Option, unwrap_or, sym, refl, ap, ◌∙◌, inl, inr, append_assoc, arith}
 use Rattle.std.specs.List.{flat_map, AllByRecursion}
 use Rattle.std.proofs.lemmas.List.{append-nil, length-append, length-map, length-set, take_more_set}
 use Rattle.std.proofs.lemmas.Bool.{lt-ltb, cond-true}
-use Rattle.constraints.specs.Constraint.{System}
+use Rattle.constraints.specs.Constraint.{System, variables}
 use Rattle.constraints.specs.Encoding.{word_of as constraint_word}
 use Rattle.grammar.specs.Parse.{Statement}
 use Rattle.grammar.specs.Units.{statements_in}
@@ -13,7 +13,7 @@ use Rattle.units.specs.Listing.{words_at, words_in, tagged, listed, listing, ove
 use Rattle.declarations.specs.Declarations.{Entry, size_of}
 use Rattle.names.specs.declared.record.Note.{Note}
 use Rattle.books.specs.Members.{◌∈◌}
-use Rattle.books.specs.Tables.{first_of}
+use Rattle.books.specs.Tables.{first_of, blocks}
 use Rattle.books.specs.Books.{Units, standing, table, words, list_of, Book}
 use Rattle.books.specs.Listing.{listing_from, listed_words, word_of}
 use Rattle.books.proofs.Embedding.{Lawful}
@@ -21,6 +21,7 @@ use Rattle.books.proofs.Lists.{standing_lawful}
 use Rattle.books.proofs.Listing.{listing_words}
 use Rattle.standing.specs.Firsts.{laid_first, first_at, unit_listing}
 use Rattle.standing.specs.Firsts as firsts
+use Rattle.standing.proofs.Placing.{first_below}
 
 -- ---- writing over
 
@@ -80,9 +81,11 @@ module _ (f : List ℕ → ℕ) where
 
 -- ---- by the table's first variables
 
-module _ (es : List Entry) (known : List ℕ → Option Note) (laid : (n : List ℕ) → firsts.first_in (known n) ≡ laid_first es n) where
+module _ (es : List Entry) (known : List ℕ → Option Note) (few : variables (blocks es) ≤ 256) (laid : (n : List ℕ) → firsts.first_in (known n) ≡ laid_first es n) where
   pub first_same : (n : List ℕ) → 0 < size_of es n → first_at (known n) ≡ first_of es n
-  first_same n lt = ap (λ f. unwrap_or f 0) (laid n ∙ cond-true _ _ _ (lt-ltb 0 (size_of es n) lt))
+  first_same n lt =
+      ap (λ f. let v = unwrap_or f 0 in cond (ltb v 256) v 0) (laid n ∙ cond-true _ _ _ (lt-ltb 0 (size_of es n) lt))
+      ∙ cond-true _ _ _ (lt-ltb (first_of es n) 256 (omega (arith, first_below es n lt, few, lt)))
 
   word_same : (w : Named) → Lawful es w → word (λ n. first_at (known n)) w ≡ word (first_of es) w
   word_same w lawful =
@@ -126,7 +129,7 @@ module _ (es : List Entry) (known : List ℕ → Option Note) (laid : (n : List 
 pub list_same : (units : Units) (known : List ℕ → Option Note) → Book (standing units) → ((n : List ℕ) → firsts.first_in (known n) ≡ laid_first (table (standing units)) n)
     → listing_from (λ n. first_at (known n)) 0 units ≡ listed_words units
 unfolding listed_words
-list_same units known book laid = units_same (table (standing units)) known laid 0 units (standing_lawful (standing units) book)
+list_same units known book laid = units_same (table (standing units)) known book.few laid 0 units (standing_lawful (standing units) book)
 
 pub listed_few : (units : Units) → Book (standing units) → length (listed_words units) ≤ 512
 listed_few units book =

@@ -1,6 +1,6 @@
 -- Cells by what the table of names says.
-use Rattle.std.proofs.Common.{◌≡◌, ℕ, ◌+◌, ◌<◌, ◌≤◌, cond, ltb, List, Some, None, Option, sym, ap, ◌∙◌, arith}
-use Rattle.std.specs.Option.{SomeIff}
+use Rattle.std.proofs.Common.{◌≡◌, ℕ, ◌+◌, ◌<◌, ◌≤◌, cond, ltb, List, Some, None, Ok, Err, Option, Result, OkIff, sym, ap, ◌∙◌, arith}
+use Rattle.std.specs.Result.{result_ok}
 use Rattle.std.proofs.lemmas.Bool.{lt-ltb, le-ltb, cond-true, cond-false}
 use Rattle.declarations.specs.Declarations.{Entry, size_of}
 use Rattle.names.specs.declared.record.Note.{Note}
@@ -26,6 +26,6 @@ module _ (es : List Entry) (known : List ℕ → Option Note) (n : List ℕ) (k 
   pub cell_there : k < size_in (known n) → Some (first_of es n + k) ≡ variable_of
   cell_there inside = sym (cond-true _ _ _ (lt-ltb k (size_of es n) (omega (arith, places.sizes n, inside))))
 
-pub some_if : (o : Option ℕ) (P : Type 0) (v : ℕ) → SomeIff o P v → P → o ≡ Some v
-some_if None P v never p = absurd (never p)
-some_if (Some x) P v found p = ap Some found.1
+pub ok_if : {E : Type 0} (r : Result ℕ E) (P : Type 0) (v : ℕ) → OkIff r P v → P → result_ok r ≡ Some v
+ok_if (Ok x) P v found p = ap Some found.1
+ok_if (Err e) P v never p = absurd (never p)

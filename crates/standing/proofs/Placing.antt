@@ -161,7 +161,7 @@ module _ (units : Units) (es : List Entry) (known after : List ℕ → Option No
       pushed = push (omega (arith, ap length laid.lengths, few_blocks es, wider, room)) (omega (arith, laid.total, laid.few))
 
       number : variable_at l.variables ≡ Some (variables (blocks es))
-      number = cond-true _ _ _ (lt-ltb l.variables 256 (omega (arith, laid.total, wider, room))) ∙ ap Some laid.total
+      number = cond-false _ _ _ (ne_eqb l.variables 256 (λ e. omega (arith, laid.total, wider, room, e))) ∙ ap Some laid.total
 
       there : (n : List ℕ) (b : Bool) → bytes_eq e.name n ≡ b
           → first_in (cond b (then_note (λ note. Some (placed (variable_at l.variables) note)) (known e.name)) (known n)) ≡ cond b (Some (variables (blocks es))) (laid_first es n)

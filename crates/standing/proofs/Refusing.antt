@@ -1,23 +1,28 @@
 -- Which refusal a load or an unload meets, from the tests in their order.
-use Rattle.std.proofs.Common.{◌≡◌, ℕ, ◌<◌, ◌≤◌, Bool, true, false, cond, ltb, List, length, get_or, set, is_some, Some, None, Ok, Err, Option, Result, sym, refl, ap, ◌∙◌, arith}
+use Rattle.std.proofs.Common.{◌≡◌, ℕ, ◌<◌, ◌≤◌, true, false, List, length, get_or, set, is_some, Some, None, Ok, Err, Option, Result, sym, refl, ap, ◌∙◌, arith}
 use Rattle.std.proofs.lemmas.List.{get_or-map}
 use Rattle.std.proofs.lemmas.Bool.{lt-ltb, le-ltb}
 use Rattle.lexemes.specs.Lines.{located}
 use Rattle.grammar.specs.declared.unit.UnitFault.{UnitFault}
 use Rattle.grammar.specs.declared.unit.UnitFault.TheVariants.{Declaration}
 use Rattle.grammar.specs.declared.unit_text.UnitText.{UnitText}
+use Rattle.grammar.specs.Texts.{text_in}
 use Rattle.grammar.specs.Units.{outcome, read}
 use Rattle.declarations.specs.Declarations.{fault_in}
 use Rattle.declarations.specs.Verdicts.{unit_verdict, both, ruled}
 use Rattle.books.specs.Books.{Units, standing, words, indirect_calls}
 use Rattle.books.specs.Loads.{clash, too_many_variables, too_many_words, too_many_calls}
-use Rattle.standing.specs.declared.refusal.UnitRefusal.{UnitRefusal}
 use Rattle.standing.specs.declared.refusal.UnitRefusal.TheVariants.{NoSuchUnit, UnitStands, Text, Clash, TooManyVariables, TooManyWords, TooManyCalls, NothingStands}
 use Rattle.standing.specs.Loads.{stands, text_fault, text_fault_by, declaration_at, load_refusal, unload_refusal}
 use Rattle.standing.specs.Knowledge.{text_of, texts_in}
 
 pub text_at : (texts : List (Option UnitText)) (u : ℕ) (d : Option UnitText) → u < length texts → get_or (texts_in texts) u None ≡ text_of (get_or texts u d)
 text_at texts u d h = get_or-map text_of texts u d None h
+
+-- the text in the slot that was read at u
+pub text_there : (texts : List (Option UnitText)) (u : ℕ) (slot : Option UnitText) (kept : UnitText) (t : List ℕ) → u < length texts → slot ≡ get_or texts u slot
+    → slot ≡ Some kept → t ≡ text_in kept → get_or (texts_in texts) u None ≡ Some t
+text_there texts u slot kept t inside at is same = text_at texts u slot inside ∙ ap text_of (sym at ∙ is) ∙ ap Some (sym same)
 
 pub none_there : {X : Type 0} (o : Option X) → is_some o ≡ false → o ≡ None
 none_there None e = refl
@@ -57,13 +62,13 @@ accepted text e = go (outcome (read text)) refl (fault_in text) refl e
 -- ---- in the order of the reasons
 
 module _ (units : Units) (u : ℕ) where
-  pub unload_refused : (f : UnitRefusal) → get_or units u None ≡ None → f ≡ cond (ltb 7 u) NoSuchUnit NothingStands → unload_refusal units u ≡ Some f
+  pub unload_outside : 7 < u → unload_refusal units u ≡ Some NoSuchUnit
   unfolding unload_refusal
-  unload_refused f none is = go (ltb 7 u) refl ∙ ap Some (sym is)
-    where
-      go : (b : Bool) → ltb 7 u ≡ b → unload_refusal units u ≡ Some (cond b NoSuchUnit NothingStands)
-      go true e = rw e
-      go false e = rw (e, none)
+  unload_outside h = rw (lt-ltb 7 u h)
+
+  pub unload_nothing : u ≤ 7 → stands units u ≡ false → unload_refusal units u ≡ Some NothingStands
+  unfolding unload_refusal
+  unload_nothing inside e = rw (le-ltb 7 u inside, e)
 
   pub unload_accepted : u ≤ 7 → stands units u ≡ true → unload_refusal units u ≡ None
   unfolding unload_refusal

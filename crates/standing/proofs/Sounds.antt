@@ -1,5 +1,5 @@
 -- Soundness out of its ghost field.
-use Rattle.std.proofs.Common.{◌≡◌, ℕ, true, false, List, [], replicate, is_ok, Some, None, Ok, Err, Option, Result, sym, refl, ap, ◌∙◌, arith}
+use Rattle.std.proofs.Common.{◌≡◌, ℕ, true, List, [], replicate, is_ok, Some, None, Ok, Err, Option, Result, refl, ap, arith}
 use mathlib.Core.HLevel.{Discrete, hedberg}
 use mathlib.Core.Logic.{∥∥₁_elim}
 use native.Mathlib.Decide.{ℕ_discrete}
@@ -11,15 +11,8 @@ use Rattle.names.specs.declared.record.NameRecord.{NameRecord}
 use Rattle.names.specs.declared.table.NameTable.{NameTable}
 use Rattle.names.specs.Notes.{note_of}
 use Rattle.names.specs.Held.{held, notes}
-use Rattle.books.specs.Books.{Units, standing, table, words, indirect_calls, Book, Book-prop}
+use Rattle.books.specs.Books.{table, words, indirect_calls, Book, Book-prop}
 use Rattle.books.proofs.Loads.{nothing_stands}
-use Rattle.std.proofs.lemmas.Bool.{true≢false}
-use Rattle.standing.specs.declared.refusal.UnitRefusal.{UnitRefusal}
-use Rattle.standing.specs.declared.standing_units.StandingUnits.{StandingUnits}
-use Rattle.standing.specs.Firsts.{first_in, laid_first}
-use Rattle.standing.specs.Loads.{unless}
-use Rattle.standing.specs.Refusals.{done_or}
-use Rattle.standing.specs.States.{units_of, LaidOut}
 use Rattle.standing.specs.Knowledge.{size_in, units_in, defined_in, Sound, Sound-prop, Knows-prop}
 
 option_discrete : Discrete (Option ℕ)

@@ -20,7 +20,7 @@ first_in (Some note) = note.first
 
 -- 0 where no block is laid out
 abbrev pub first_at : Option Note → ℕ
-first_at note = unwrap_or (first_in note) 0
+first_at note = let v = unwrap_or (first_in note) 0 in cond (nat_lt v 256) v 0
 
 -- the first variable of a name that has a block among these
 abbrev pub laid_first : List Entry → List ℕ → Option ℕ

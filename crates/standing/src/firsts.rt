@@ -15,9 +15,7 @@ impl<'a> FirstVariables for Firsts<'a> {
 
     // 0 where no block is laid out.
     fn first_of(&self, name: &[u8]) -> u8 {
-        self.names
-            .find(name)
-            .and_then(|note| note.first)
-            .unwrap_or(0)
+        let first = self.names.find(name).and_then(|note| note.first);
+        u8::try_from(first.unwrap_or(0)).unwrap_or(0)
     }
 }

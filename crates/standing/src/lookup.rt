@@ -30,7 +30,7 @@ pub(crate) fn cell_variable(names: &NameTable, name: &[u8], slot: u16) -> Option
     if slot > u16::from(note.slots) {
         return None;
     }
-    note.first?.checked_add(slot as u8)
+    u8::try_from(note.first?.saturating_add(slot)).ok()
 }
 
 // The variable of a place that is read from a text, if the name has the place's slot.

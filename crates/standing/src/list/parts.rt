@@ -15,6 +15,17 @@ use lexemes::lexeme::Span;
 use names::NameTable;
 use units::listing::ListedWord;
 
+// Makes `words` the words that are listed.
+fn copy_words(listed: &[ListedWord], words: &mut ArrayVec<u32, 512>)
+    requires { length listed.now ≤ 512 }
+    ensures { words.new.items ≡ map word_of listed.now }
+{
+    words.clear();
+    for entry in listed {
+        words.push(entry.word);
+    }
+}
+
 impl UnitList {
     // A list without blocks and words.
     pub fn new() -> UnitList
@@ -99,10 +110,6 @@ impl UnitList {
         ensures listed { length (listing_from (firsts_of names.now) 0 (texts_in texts.now)) ≤ 512 → listed_in self.new ≡ listing_from (firsts_of names.now) 0 (texts_in texts.now) }
     {
         let count = list_units(names, texts, &mut self.listed).min(512);
-        let mut words = ArrayVec::new();
-        for listed in &self.listed[..count] {
-            words.push(listed.word);
-        }
-        self.words = words;
+        copy_words(&self.listed[..count], &mut self.words);
     }
 }

@@ -20,10 +20,8 @@ impl StandingUnits {
         ensures book { Book (standing (units_of self.old)) }
     {
         list.clear();
-        let mut names = self.names;
-        names.unplace_all();
-        place_units(&mut names, &self.texts, list);
-        list.fill(&names, &self.texts);
-        self.names = names;
+        self.names.unplace_all();
+        place_units(&mut self.names, &self.texts, list);
+        list.fill(&self.names, &self.texts);
     }
 }

@@ -73,14 +73,18 @@ impl StandingUnits {
         ensures laid { is_ok result ≡ false → LaidOut self.old → LaidOut self.new }
     {
         let unit = unit as usize;
-        let text = self.text(unit)?;
+        let Some(slot) = self.texts.get(unit) else {
+            return Err(UnitRefusal::NoSuchUnit);
+        };
+        let Some(text) = *slot else {
+            return Err(UnitRefusal::NothingStands);
+        };
+        let text = text.as_slice();
         let words = count_words(text);
         let calls = count_calls(text);
-        let mut names = self.names;
-        forget_names(&mut names, text);
-        names.sweep();
+        forget_names(&mut self.names, text);
+        self.names.sweep();
         self.texts[unit] = None;
-        self.names = names;
         self.words -= words;
         self.calls -= calls;
         Ok(())

@@ -1,4 +1,5 @@
-use Rattle.std.proofs.Common.{ℕ, ◌+◌, ◌%◌, set, get_or, Some, None, ap, ◌∙◌, sym, subst, arith}
+use Rattle.std.proofs.Common.{ℕ, ◌+◌, ◌%◌, set, get_or, Some, None, refl, ap, ◌∙◌, sym, subst, arith}
+use Rattle.std.proofs.lemmas.List.{get_or-set_other}
 use Rattle.numbering.specs.Lists.{hash_of}
 use Rattle.numbering.proofs.Lists.{hash_items_same}
 use Rattle.names.specs.Tables.{Sound}
@@ -43,5 +44,10 @@ invariant_of-self c =
 
 pub returns : goal.returns
 returns c =
-    let s = is_sound c.args.self.now.sound in
-    in_use_push s c.args.last c.requires.unknown (omega (arith, s.counted, c.requires.room))
+    let t = c.args.self.now in
+    let s = is_sound t.sound in
+    record {
+      appended = in_use_push s c.args.last c.requires.unknown (omega (arith, s.counted, c.requires.room));
+      used = refl;
+      rest = λ j d h. get_or-set_other t.records t.used j c.args.last d (omega arith);
+    }

@@ -10,5 +10,5 @@ pub returns-clause-after : goal.returns-clause-after
 returns-clause-after c =
     let t = c.args.self.now in
     let none = ap (notes t) c.new.ensures.named ∙ c.requires in
-    subst₃ (Updated (held t)) (sym c.append.ensures) c.new.ensures.named
+    subst₃ (Updated (held t)) (sym c.append.ensures.appended) c.new.ensures.named
     (ap Some c.new.ensures.noted ∙ chosen _ _ None c.if-not-takes.ensures) (updated_push (held t) c.new.result none)

@@ -1,11 +1,13 @@
-use Rattle.std.proofs.Common.{take, ap, ◌∙◌, subst, sym}
-use Rattle.std.proofs.lemmas.List.{take-map}
-use Rattle.names.specs.Notes.{unplaced, note_of, total, width}
+use Rattle.std.proofs.Common.{take, ap, ◌∙◌, subst, sym, arith}
+use Rattle.names.specs.Notes.{note_of, total, width}
 use Rattle.names.specs.Tables.{Sound}
 use Rattle.names.specs.Held.{held}
 use Rattle.names.proofs.Sounds.{is_sound}
-use Rattle.names.proofs.Rewriting.{unplaced_notes, unplaced_widths, sound_unplaced}
+use Rattle.names.proofs.Rewriting.{unplaced_in_use, unplaced_notes, unplaced_widths, sound_unplaced}
 use Rattle.names.proofs.table.NameTable.unplace_all.Goals as goal
+
+pub unplace-requires : goal.unplace-requires
+unplace-requires c = let s = is_sound c.args.self.now.sound in omega (arith, s.few, s.long)
 
 pub invariant_of-self : goal.invariant_of-self
 invariant_of-self c =
@@ -15,9 +17,9 @@ invariant_of-self c =
 pub returns-clause-after : goal.returns-clause-after
 returns-clause-after c = λ n.
     let t = c.args.self.now in
-    ap (λ rs. note_of (take t.used rs) n) c.unplace.ensures ∙ ap (λ rs. note_of rs n) (take-map unplaced t.used t.records) ∙ unplaced_notes (held t) n
+    ap (λ rs. note_of (take t.used rs) n) c.unplace.ensures ∙ ap (λ rs. note_of rs n) (unplaced_in_use (is_sound t.sound)) ∙ unplaced_notes (held t) n
 
 pub returns-clause-variables : goal.returns-clause-variables
 returns-clause-variables c =
     let t = c.args.self.now in
-    ap (λ rs. total width (take t.used rs)) c.unplace.ensures ∙ ap (total width) (take-map unplaced t.used t.records) ∙ unplaced_widths (held t)
+    ap (λ rs. total width (take t.used rs)) c.unplace.ensures ∙ ap (total width) (unplaced_in_use (is_sound t.sound)) ∙ unplaced_widths (held t)
