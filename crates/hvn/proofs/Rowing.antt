@@ -12,7 +12,7 @@ use Rattle.flows.proofs.Opening.{or_assoc}
 use Rattle.constraints.specs.Finite.{any}
 use Rattle.std.specs.Str.{bytes_eq}
 use Rattle.constraints.specs.Constraint.{decode}
-use Rattle.hvn.specs.Columns.{column_number, in_row, SameRow, NoneFrom, NextColumn, Settled, empty, lone, crowd, brought, element_number}
+use Rattle.hvn.specs.Columns.{column_number, in_row, SameRow, NoneFrom, NextColumn, Settled, lone, crowd, brought, element_number}
 
 pub row_in : (rows : List ℕ) (k c : ℕ) → c < 2816 → in_row rows k c ≡ bit_at 88 rows k c
 row_in rows k c h = rw (lt-ltb c 2816 h)

@@ -1,6 +1,6 @@
 -- Values as numbers: 0 for nothing, 1 + c for column c. The columns are 2,560 sources, then 256 positions of sets.
-use Rattle.std.specs.Prelude.{◌≡◌, ℕ, ◌+◌, ◌*◌, ◌<◌, ◌≤◌, Bool, true, false, cond, ◌&&◌, ◌||◌, ◌≢◌, List, Option, Some, None, length, nat_eq, nat_lt, slice_index, slice_index_or}
-use Rattle.graphs.specs.Matrix.{bit, bit_at}
+use Rattle.std.specs.Prelude.{◌≡◌, ℕ, ◌+◌, ◌-◌, ◌*◌, ◌/◌, ◌^◌, ◌<◌, ◌≤◌, Bool, true, false, cond, ◌&&◌, ◌||◌, ◌≢◌, List, Option, Some, None, length, nat_eq, nat_lt, slice_index, slice_index_or}
+use Rattle.graphs.specs.Matrix.{bit_of, bit, bit_at}
 use Rattle.constraints.specs.Finite.{any}
 use Rattle.constraints.specs.declared.constraint.Constraint.{Constraint}
 use Rattle.constraints.specs.declared.constraint.Constraint.TheVariants.{Address as address, Copy as copy, Load as load, Store as store}
@@ -68,6 +68,24 @@ pub record NextColumn (rows : List ℕ) (k low c : ℕ) : Type 0 where
   pub inside : c < 2816
   pub set : bit_at 88 rows k c ≡ true
   pub none : NoneFrom rows k low c
+
+-- b is the lowest bit of a word from bit low on
+pub record LowestBit (word low b : ℕ) : Type 0 where
+  pub from : low ≤ b
+  pub inside : b < 32
+  pub set : bit_of word b ≡ true
+  pub none : (d : ℕ) → low ≤ d → d < b → bit_of word d ≢ true
+
+-- the words of row k from that of low up to p have no column from low on
+abbrev pub NoWordFrom : List ℕ → ℕ → ℕ → ℕ → Type 0
+NoWordFrom rows k low p = (j : ℕ) → low / 32 ≤ j → j < p → slice_index rows (88 * k + j) / 2 ^ (low - 32 * j) ≡ 0
+
+-- p is the first word of row k, from that of low on, with a column from low on
+pub record NextWord (rows : List ℕ) (k low p : ℕ) : Type 0 where
+  pub from : low / 32 ≤ p
+  pub inside : p < 88
+  pub some : slice_index rows (88 * k + p) / 2 ^ (low - 32 * p) ≢ 0
+  pub none : NoWordFrom rows k low p
 
 -- the words name variables below 256
 abbrev pub SmallWords : List ℕ → Type 0

@@ -1,16 +1,16 @@
 // The sets that components take in, as rows of columns, and the numbers of the values.
-ghost use Rattle.std.specs.Prelude.{◌≡◌, ℕ, ◌<◌, ◌≤◌, Bool, ◌||◌, ◌≢◌, length, MatchOption, slice_index};
+ghost use Rattle.std.specs.Prelude.{◌≡◌, ℕ, ◌/◌, ◌^◌, ◌<◌, ◌≤◌, Bool, ◌||◌, ◌≢◌, length, MatchOption, slice_index};
 ghost use Rattle.graphs.specs.Matrix.{bit_at};
 ghost use Rattle.constraints.specs.Constraint.{var_count};
 ghost use Rattle.constraints.specs.Lists.{system_of};
 ghost use Rattle.constraints.specs.Value.{value_class};
 ghost use Rattle.layers.specs.Classes.{Numbers};
-ghost use Rattle.hvn.specs.Columns.{in_row, SameRow, Settled, brought, NoneFrom, NextColumn, SmallWords, SmallNumbers, RowDone};
+ghost use Rattle.hvn.specs.Columns.{in_row, SameRow, Settled, brought, NoneFrom, NextColumn, NoWordFrom, NextWord, LowestBit, SmallWords, SmallNumbers, RowDone};
 ghost use Rattle.hvn.specs.Flows.{FoundFlow};
 
 use crate::element::element_of;
 use crate::flow::Flow;
-use constraints::{Constraint, ConstraintList};
+use constraints::ConstraintList;
 use graphs::bank::number_rows;
 use graphs::bits::BitMatrix;
 
@@ -29,6 +29,15 @@ fn first_equal(words: &[u32; 22528], first: &mut [u16; 256], k: usize) -> u16
     first[k]
 }
 
+// The lowest bit of a word from bit `low` on.
+fn lowest_bit(word: u32, low: usize) -> usize
+    requires within { low < 32 }
+    requires some { word / 2 ^ low ≢ 0 }
+    ensures { LowestBit word low result }
+{
+    low + (word >> low).trailing_zeros() as usize
+}
+
 // A row for each position, and memory to number the rows.
 #[derive(Drop)]
 pub struct Sets {
@@ -37,12 +46,23 @@ pub struct Sets {
 }
 
 impl Sets {
+    // The first word of row k, from that of `low` on, with a column from `low` on.
+    fn next_word(&self, k: usize, low: usize) -> Option<usize>
+        requires { k < 256 }
+        ensures { MatchOption result (NoWordFrom self.now.rows.words k low 88) (NextWord self.now.rows.words k low) }
+    {
+        let row = self.rows.row(k);
+        (low / 32..88).find(|at| row[*at] >> low.saturating_sub(32 * *at) != 0)
+    }
+
     // The lowest column of row k from `low` on.
     fn next_column(&self, k: usize, low: usize) -> Option<usize>
         requires { k < 256 }
         ensures { MatchOption result (NoneFrom self.now.rows.words k low 2816) (NextColumn self.now.rows.words k low) }
     {
-        (low..2816).find(|column| self.rows.has(k, *column))
+        let at = self.next_word(k, low)?;
+        let word = self.rows.row(k)[at];
+        Some(32 * at + lowest_bit(word, low.saturating_sub(32 * at)))
     }
 
     // The number of row k: of no column, of one, or of the first row with the same columns.
@@ -72,7 +92,7 @@ impl Sets {
         ensures others { (y c : ℕ) → c < 2816 → y ≢ k → bit_at 88 self.new.rows.words y c ≡ bit_at 88 self.old.rows.words y c }
     {
         for word in words {
-            if let Some(column) = element_of(flow, number, v, Constraint::decode(*word)) {
+            if let Some(column) = element_of(flow, number, v, *word) {
                 self.rows.put(k, column);
             }
         }
