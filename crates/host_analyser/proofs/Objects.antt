@@ -34,6 +34,13 @@ module _ (row : ℕ → Bool) (from : ℕ) where
       go false none = λ k in_range above there. subst T none (any_intro 256 later k in_range (and_intro (leb from k) (row k) (le→leb from k above) there))
 
 module _ (r q : ℕ → Bool) where
+  -- between two objects that follow each other in one row, the rows share nothing
+  pub unshared_on : (from o p : ℕ) → Unshared r q from → NextObject r from (Some o) → NextObject q o (Some p) → Unshared r q p
+  unshared_on from o p so_far next_r next_q k below in_r in_q =
+      ⊎_elim (λ lt. so_far k lt in_r in_q)
+      (λ le. ⊎_elim (λ lt. next_r.3 k le lt in_r) (λ up. next_q.3 k up below in_q) (cases_lt k o))
+      (cases_lt k from)
+
   pub share_none_second : (from o : ℕ) → Unshared r q from → NextObject r from (Some o) → NextObject q o None → false ≡ any 256 (λ k. r k && q k)
   share_none_second from o so_far next_r next_q =
       same_test false (any 256 (λ k. r k && q k)) (λ t. absurd t)

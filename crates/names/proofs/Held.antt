@@ -1,5 +1,5 @@
 -- For callers: a table's notes as a map, and its variables whatever the order of its records.
-use Rattle.std.proofs.Common.{◌≡◌, ℕ, suc, ◌+◌, ◌<◌, Bool, true, false, cond, ◌⊎◌, List, [], ◌∷◌, length, Some, Decides, sym, refl, ap, ◌∙◌, inl, inr, ⊎_elim, arith}
+use Rattle.std.proofs.Common.{◌≡◌, ℕ, suc, ◌+◌, ◌<◌, Bool, true, false, cond, ◌⊎◌, List, [], ◌∷◌, length, Some, Option, Decides, sym, refl, ap, ◌∙◌, inl, inr, ⊎_elim, arith}
 use Rattle.std.specs.Str.{bytes_eq}
 use Rattle.std.proofs.lemmas.Bool.{false_from_ne_true}
 use Rattle.std.proofs.lemmas.Slice.Eq.{bytes_eq-Decides}
@@ -8,11 +8,19 @@ use Rattle.names.specs.declared.record.Note.{Note}
 use Rattle.names.specs.declared.record.NameRecord.{NameRecord}
 use Rattle.names.specs.declared.table.NameTable.{NameTable}
 use Rattle.numbering.specs.Keys.{Fresh}
-use Rattle.names.specs.Notes.{name_in, note_of, total, weight, width, listed, Once, Lists, sum_over}
+use Rattle.names.specs.Notes.{name_in, note_of, with_note, total, weight, width, listed, Once, Lists, sum_over}
 use Rattle.names.specs.Index.{key_at, same_key}
 use Rattle.names.specs.Held.{held, notes, variables_of}
 use Rattle.names.proofs.Records.{names_of, same_self, none_parts, fresh_rest, unnoted}
 use Rattle.names.proofs.Sounds.{is_sound}
+
+-- ---- the map at the changed name, and elsewhere
+
+pub with_note_same : (f : List ℕ → Option Note) (n : List ℕ) (x : Option Note) → with_note f n x n ≡ x
+with_note_same f n x = ap (λ b. cond b x (f n)) (same_self n)
+
+pub with_note_other : (f : List ℕ → Option Note) (n m : List ℕ) (x : Option Note) → (n ≡ m → ⊥) → with_note f n x m ≡ f m
+with_note_other f n m x apart = ap (λ b. cond b x (f m)) (false_from_ne_true (bytes_eq n m) (λ e. apart ((bytes_eq-Decides n m).0 e)))
 
 -- ---- the sum over names in any order
 
