@@ -114,12 +114,20 @@ pub(crate) fn change_record<F: FnOnce(&mut NameRecord)>(
     change(&mut records[p]);
 }
 
-// No block is laid out for any of the first so many names.
-pub(crate) fn unplace(records: &mut [NameRecord], used: usize)
+// No block is laid out for any of the names.
+fn unplace(records: &mut [NameRecord])
+    ensures { records.new ≡ map unplaced records.old }
+{
+    for known in records {
+        known.place(None);
+    }
+}
+
+// No block is laid out for any of the first so many names. The records are lent whole, since a part of a field is not lent
+// from a struct with a ghost field.
+pub(crate) fn unplace_first(records: &mut [NameRecord], used: usize)
     requires { used ≤ length records.old }
     ensures { records.new ≡ map unplaced (take used records.old) ++ drop used records.old }
 {
-    for known in &mut records[..used] {
-        known.place(None);
-    }
+    unplace(&mut records[..used]);
 }

@@ -3,7 +3,7 @@ ghost use Rattle.std.specs.Prelude.{◌≡◌, ◌%◌};
 ghost use Rattle.names.specs.Tables.{Sound};
 
 use crate::asked::Asked;
-use crate::record::{NOWHERE, NameRecord, Note, change_record, unplace};
+use crate::record::{NOWHERE, NameRecord, Note, change_record, unplace_first};
 use crate::short_name::LONGEST_NAME;
 use numbering::{KeyBank, hash_items, lookup};
 
@@ -179,7 +179,7 @@ impl NameTable {
         ensures after { (n : List ℕ) → notes self.new n ≡ then_note (λ k. Some (placed None k)) (notes self.old n) }
         ensures variables { variables_of self.new ≡ variables_of self.old }
     {
-        unplace(&mut self.records, self.used);
+        unplace_first(&mut self.records, self.used);
     }
 
     // The known name's block begins at this variable; at `NOWHERE` it has none.

@@ -45,7 +45,6 @@ impl StandingUnits {
             return Err(UnitRefusal::UnitStands);
         }
         check_unit(text, &mut self.memory)?;
-        let kept = UnitText::try_from(text)?;
         if let Some(at) = first_clash(&self.names, text) {
             return Err(UnitRefusal::Clash(locate(text, at)));
         }
@@ -59,7 +58,7 @@ impl StandingUnits {
         if calls > CALL_LIMIT - self.calls {
             return Err(UnitRefusal::TooManyCalls);
         }
-        self.texts[unit] = Some(kept);
+        self.texts[unit] = Some(UnitText::try_from(text)?);
         self.names = names;
         self.words += words;
         self.calls += calls;

@@ -1,11 +1,11 @@
-use Rattle.std.proofs.Common.{◌≡◌, ◌∷◌, ◌++◌, [], map, get_or, take, drop, sym, ap, ap₂, ◌∙◌, arith}
+use Rattle.std.proofs.Common.{◌≡◌, ◌∷◌, ◌++◌, [], map, get_or, sym, ap, ap₂, ◌∙◌, arith}
 use Rattle.std.proofs.lemmas.List.{take_all, take_more_set, map_more, get_or-set_other}
 use Rattle.names.specs.Notes.{unplaced}
 use Rattle.names.proofs.record.unplace.Goals as goal
 
 pub loop-known-preserved : goal.loop-known-preserved
 loop-known-preserved c =
-    let rs = take c.args.used c.args.records.now in
+    let rs = c.args.records.now in
     let i = c.loop-known.known-index in
     let items = c.loop-known.known-items in
     let d = c.known-item.result in
@@ -23,8 +23,5 @@ loop-known-preserved c =
 
 pub returns : goal.returns
 returns c =
-    let rs = take c.args.used c.args.records.now in
-    let done =
     sym (take_all c.loop-known.known-index c.loop-known.known-items (omega (arith, c.loop-known.auto.known-items, c.loop-known-test.false)))
-    ∙ c.loop-known.invariant.done ∙ ap (map unplaced) (take_all c.loop-known.known-index rs c.loop-known-test.false) in
-    ap (λ front. front ++ drop c.args.used c.args.records.now) done
+    ∙ c.loop-known.invariant.done ∙ ap (map unplaced) (take_all c.loop-known.known-index c.args.records.now c.loop-known-test.false)

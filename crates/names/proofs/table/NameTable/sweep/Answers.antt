@@ -81,5 +81,5 @@ pub returns : goal.returns
 returns c =
     let t = c.args.self.now in
     let all = subst (λ rs. Rewritten rs (held c.loop-i.self) standing)
-        (take_all c.loop-i.i (held t) (omega (arith, used_long (is_sound t.sound), c.loop-i-test.false))) c.loop-i.invariant.done in
+    (take_all c.loop-i.i (held t) (omega (arith, used_long (is_sound t.sound), c.loop-i-test.false))) c.loop-i.invariant.done in
     record { after = all.noted; variables = all.totals width }

@@ -41,11 +41,11 @@ returns-in_err-check_unit c =
     let p = err_from_is_err_and c.from_residual.result c.from_residual.ensures.1 in
     record { replies = rw (p.1, p.2, refused); after = rw refused; laid = λ _ laid. laid }
 
-pub returns-in_err-kept : goal.returns-in_err-kept
-returns-in_err-kept c =
+pub returns-in_err-try_from : goal.returns-in_err-try_from
+returns-in_err-try_from c =
     let text = c.args.text.now in
     let few = (read_whole text (accepted text c.in_ok-check_unit.ensures.verdict).admitted).few in
-    absurd (omega (arith, few, c.in_err-kept.ensures.0))
+    absurd (omega (arith, few, c.in_err-try_from.ensures.0))
 
 pub returns-in-Some-first_clash : goal.returns-in-Some-first_clash
 unfolding LaidOut
@@ -137,7 +137,7 @@ invariant_of-self-2 c =
     let few_words : t.words + c.count_words-words.result ≤ 512 = omega (arith, s.words_counted, s.book.few_words) in
     let few_calls : t.calls + c.count_calls-calls.result ≤ 64 = omega (arith, s.calls_counted, s.book.few_calls) in
     let entered = c.in_ok-enter_names.ensures.after (c.in_ok-enter_names.ensures.fits ∙ fits) in
-    record { sound = ∣ load_sound s u text inside free fine clear fits c.in_ok-kept.kept c.enter_names.new.names _ _ c.in_ok-kept.ensures.1 entered c.count_words-words.ensures c.count_calls-calls.ensures few_words few_calls ∣₁ }
+    record { sound = ∣ load_sound s u text inside free fine clear fits c.in_ok-try_from.field-0 c.enter_names.new.names _ _ c.in_ok-try_from.ensures.1 entered c.count_words-words.ensures c.count_calls-calls.ensures few_words few_calls ∣₁ }
 
 pub returns : goal.returns
 returns c =
@@ -159,6 +159,6 @@ returns c =
     (calls_within _ _ (call_total s u text inside free fine _ c.count_calls-calls.ensures) few_calls) in
     record {
       replies = rw done;
-      after = rw done (map-set text_of t.texts u (Some c.in_ok-kept.kept) ∙ ap (λ x. set (texts_in t.texts) u (Some x)) c.in_ok-kept.ensures.1);
+      after = rw done (map-set text_of t.texts u (Some c.in_ok-try_from.field-0) ∙ ap (λ x. set (texts_in t.texts) u (Some x)) c.in_ok-try_from.ensures.1);
       laid = λ e laid. absurd (true≢false e);
     }
