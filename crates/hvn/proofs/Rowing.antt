@@ -1,5 +1,5 @@
 -- Rows of 2,816 columns, and what a row comes to.
-use Rattle.std.proofs.Common.{◌≡◌, ℕ, ◌+◌, ◌*◌, ◌/◌, ◌^◌, ◌<◌, ◌≤◌, Bool, true, false, ◌||◌, eqb, ltb, List, Option, Some, None, Decides, length, get_or, take, sym, refl, ap, ◌∙◌, inl, inr, arith}
+use Rattle.std.proofs.Common.{◌≡◌, ℕ, ◌+◌, ◌*◌, ◌/◌, ◌^◌, ◌<◌, ◌≤◌, Bool, true, false, cond, ◌||◌, eqb, ltb, List, Option, Some, None, Decides, length, get_or, take, sym, refl, ap, ◌∙◌, inl, inr, arith}
 use Rattle.std.proofs.lemmas.List.{length-take-le, get_or-take, ext_get_or}
 use Rattle.std.proofs.lemmas.Bool.{cases_lt, cases_eq, cases_order, eq-eqb, ne_eqb, and_parts, lt-ltb, le-ltb, ltb-true}
 use Rattle.std.proofs.lemmas.Slice.Eq.{bytes_eq-Decides}
@@ -11,8 +11,11 @@ use Rattle.flows.proofs.Opening.{or_none, any_more, any_zero}
 use Rattle.flows.proofs.Opening.{or_assoc}
 use Rattle.constraints.specs.Finite.{any}
 use Rattle.std.specs.Str.{bytes_eq}
-use Rattle.constraints.specs.Constraint.{decode}
-use Rattle.hvn.specs.Columns.{column_number, in_row, SameRow, NoneFrom, NextColumn, Settled, lone, crowd, brought, element_number}
+use Rattle.constraints.specs.declared.constraint.Constraint.{Constraint}
+use Rattle.constraints.specs.declared.constraint.Constraint.TheVariants.{Address as address, Copy as copy, Load as load, Store as store}
+use Rattle.constraints.specs.Constraint.{decode, left_of}
+use Rattle.flows.specs.Names.{NamesBelow}
+use Rattle.hvn.specs.Columns.{column_number, in_row, SameRow, NoneFrom, NextColumn, Settled, lone, crowd, brought, member, copied, element_number, SmallNumbers}
 
 pub row_in : (rows : List ℕ) (k c : ℕ) → c < 2816 → in_row rows k c ≡ bit_at 88 rows k c
 row_in rows k c h = rw (lt-ltb c 2816 h)
@@ -101,6 +104,25 @@ column_put m m' k x c put small =
       | inl e ↦ rw (eq-eqb x c e, eq-eqb (x + 1) (c + 1) (omega arith))
       | inr ne ↦ rw (ne_eqb x c ne, ne_eqb (x + 1) (c + 1) (λ e. omega arith))
     ]))
+
+-- a constraint with another left variable brings nothing
+pub no_member : (reach number : List ℕ) (v : ℕ) (c : Constraint) → member reach v (left_of c) ≡ false → element_number reach number v c ≡ 0
+no_member reach number v (address p o) out = ap (λ b. cond b (1 + o) 0) out
+no_member reach number v (copy p q) out = ap (λ b. cond b (copied reach number v q) 0) out
+no_member reach number v (load p q k) out = ap (λ b. cond b (513 + 8 * q + k) 0) out
+no_member reach number v (store p k q) out = refl
+
+cond_below : (b : Bool) (x y n : ℕ) → x < n → y < n → cond b x y < n
+cond_below true x y n hx hy = hx
+cond_below false x y n hx hy = hy
+
+pub element_small : (reach number : List ℕ) (v : ℕ) (c : Constraint) → NamesBelow 256 c → SmallNumbers number → element_number reach number v c < 2817
+element_small reach number v (address p o) h small = cond_below (member reach v p) (1 + o) 0 2817 (omega (arith, h.1)) (omega arith)
+element_small reach number v (copy p q) h small =
+    cond_below (member reach v p) (copied reach number v q) 0 2817
+    (cond_below (member reach v q) 0 (get_or number q 0) 2817 (omega arith) (small q)) (omega arith)
+element_small reach number v (load p q k) h small = cond_below (member reach v p) (513 + 8 * q + k) 0 2817 (omega (arith, h.1, h.2)) (omega arith)
+element_small reach number v (store p k q) h small = omega arith
 
 pub no_column : (r : Option ℕ) → ((c : ℕ) → r ≡ Some c → ⊥) → 0 ≡ column_number r
 no_column None other = refl

@@ -1,6 +1,6 @@
 // What constraints bring to a component, as columns.
 ghost use Rattle.std.specs.Prelude.{◌≡◌, ◌<◌};
-ghost use Rattle.constraints.specs.Constraint.{decode, left_of};
+ghost use Rattle.constraints.specs.Constraint.{left_of};
 ghost use Rattle.flows.specs.Names.{NamesBelow};
 ghost use Rattle.hvn.specs.Columns.{copied, column_number, element_number};
 
@@ -20,7 +20,8 @@ fn copied_column(flow: &Flow, number: &[u16; 256], v: usize, q: usize) -> Option
     }
 }
 
-fn left_of(constraint: Constraint) -> usize
+// The variable on the left of the constraint.
+pub fn left_of(constraint: Constraint) -> usize
     ensures { result ≡ left_of constraint }
 {
     match constraint {
@@ -31,22 +32,35 @@ fn left_of(constraint: Constraint) -> usize
     }
 }
 
-// The column of what a word's constraint brings to the component of v.
-// Most words of a list bring nothing to one component, so what is not of a member is told by the left variable alone.
-pub fn element_of(flow: &Flow, number: &[u16; 256], v: usize, word: u32) -> Option<usize>
+// The column of what the constraint brings to the component of v.
+pub fn element_of(
+    flow: &Flow,
+    number: &[u16; 256],
+    v: usize,
+    constraint: Constraint,
+) -> Option<usize>
     requires of { v < 256 }
-    requires names { NamesBelow 256 (decode word) }
-    ensures { column_number result ≡ element_number flow.now.reach.words number.now v (decode word) }
+    requires names { NamesBelow 256 constraint }
+    ensures { column_number result ≡ element_number flow.now.reach.words number.now v constraint }
 {
-    let left = left_of(Constraint::decode(word));
-    if !flow.is_member(v, left) {
-        return None;
-    }
-    match Constraint::decode(word) {
-        Constraint::Address { object, .. } => Some(usize::from(object)),
-        Constraint::Copy { right, .. } => copied_column(flow, number, v, usize::from(right)),
-        Constraint::Load { right, offset, .. } => {
-            Some(512 + 8 * usize::from(right) + usize::from(offset))
+    match constraint {
+        Constraint::Address { left, object } => flow
+            .is_member(v, usize::from(left))
+            .then_some(usize::from(object)),
+        Constraint::Copy { left, right } => {
+            if flow.is_member(v, usize::from(left)) {
+                copied_column(flow, number, v, usize::from(right))
+            } else {
+                None
+            }
+        }
+        Constraint::Load {
+            left,
+            right,
+            offset,
+        } => {
+            let column = 512 + 8 * usize::from(right) + usize::from(offset);
+            flow.is_member(v, usize::from(left)).then_some(column)
         }
         Constraint::Store { .. } => None,
     }

@@ -8,9 +8,9 @@ ghost use Rattle.layers.specs.Classes.{Numbers};
 ghost use Rattle.hvn.specs.Columns.{in_row, SameRow, Settled, brought, NoneFrom, NextColumn, NoWordFrom, NextWord, LowestBit, SmallWords, SmallNumbers, RowDone};
 ghost use Rattle.hvn.specs.Flows.{FoundFlow};
 
-use crate::element::element_of;
+use crate::element::{element_of, left_of};
 use crate::flow::Flow;
-use constraints::ConstraintList;
+use constraints::{Constraint, ConstraintList};
 use graphs::bank::number_rows;
 use graphs::bits::BitMatrix;
 
@@ -92,7 +92,11 @@ impl Sets {
         ensures others { (y c : ℕ) → c < 2816 → y ≢ k → bit_at 88 self.new.rows.words y c ≡ bit_at 88 self.old.rows.words y c }
     {
         for word in words {
-            if let Some(column) = element_of(flow, number, v, *word) {
+            // Most words of a list bring nothing to one component: the left variable alone tells them.
+            if !flow.is_member(v, left_of(Constraint::decode(*word))) {
+                continue;
+            }
+            if let Some(column) = element_of(flow, number, v, Constraint::decode(*word)) {
                 self.rows.put(k, column);
             }
         }
