@@ -1,5 +1,5 @@
 -- A reply from the smallest solution is one about every solution, and the other way round.
-use Rattle.std.proofs.Common.{◌≡◌, ℕ, Bool, true, false, cond, T, ◌↔◌, List, Some, None, Ok, Err, Decides, MatchBool, MatchResult, IsOkAnd, Option, Result, sym, refl, ap, ◌∙◌, arith}
+use Rattle.std.proofs.Common.{◌≡◌, ℕ, Bool, true, false, cond, T, ◌↔◌, List, Some, None, Ok, Err, Decides, MatchBool, Option, Result, sym, refl, ap, ◌∙◌, arith}
 use Rattle.units.specs.Words.{Cell}
 use Rattle.books.specs.Books.{SameTexts, Book as Lawful}
 use Rattle.books.specs.Replies.{place_among, name_in, has_object, shares, asked, points, alias}
@@ -13,12 +13,6 @@ use Rattle.host_analyser.specs.declared.refusal.Refusal.{Refusal}
 use Rattle.host_analyser.specs.declared.refusal.Refusal.TheVariants.{NotSettled, NoPlace, Unknown}
 use Rattle.host_analyser.specs.Books.{Book, texts_of}
 use Rattle.histories.specs.Says.{Reply, Answers, QuestionSays, PointsSays, AliasSays, answer_of}
-
--- a question's result with its answer put into a reply
-pub mapped : (r : Result Bool Refusal) (s : Reply) → MatchResult r (λ x. IsOkAnd s (λ a. a ≡ Whether x)) (λ f. s ≡ Err f) → s ≡ answer_of r
-mapped (Ok x) (Ok a) h = ap Ok h
-mapped (Ok x) (Err f) h = absurd h
-mapped (Err f) s h = h
 
 decided : (b : Bool) (P : Type 0) → T b ↔ P → Decides b P
 decided true P (there, back) = (λ e. there tt, λ p. refl)

@@ -2,13 +2,13 @@
 ghost use Rattle.std.specs.Prelude.{◌≡◌, IfOk, OnOk};
 ghost use Rattle.host_analyser.specs.Books.{new_book};
 ghost use Rattle.histories.specs.Books.{next_book, book_from};
-ghost use Rattle.histories.specs.Says.{Answers, TargetsSays, Says};
+ghost use Rattle.histories.specs.Says.{answer_of, Answers, TargetsSays, Says};
 ghost use Rattle.histories.specs.Histories.{History, Audited};
 ghost use Rattle.host_analyser.specs.States.{book_of};
 
 use crate::{Answer, Call, Progress, Question, Reply};
 use engine::Engine;
-use host_analyser::Analyser;
+use host_analyser::{Analyser, Refusal};
 use std::alloc::{AllocError, Global};
 
 // What two histories were replied, and then the further calls made of both.
@@ -20,6 +20,13 @@ pub struct AuditReport {
     pub second_further: Vec<Reply>,
 }
 
+// A question's result as the reply.
+fn answer(outcome: Result<bool, Refusal>) -> Reply
+    ensures { result ≡ answer_of outcome }
+{
+    Ok(Answer::Whether(outcome?))
+}
+
 // Asks one question.
 fn ask<E: Engine>(analyser: &mut Analyser<E>, question: &Question) -> Reply
     ensures says { Answers (book_of analyser.old) question.now result }
@@ -27,8 +34,8 @@ fn ask<E: Engine>(analyser: &mut Analyser<E>, question: &Question) -> Reply
     ensures rule { (E.meaning analyser.new.engine).rule ≡ (E.meaning analyser.old.engine).rule }
 {
     match *question {
-        Question::Points { place, name } => analyser.points(place, name).map(Answer::Whether),
-        Question::Alias { first, second } => analyser.alias(first, second).map(Answer::Whether),
+        Question::Points { place, name } => answer(analyser.points(place, name)),
+        Question::Alias { first, second } => answer(analyser.alias(first, second)),
     }
 }
 
