@@ -63,15 +63,18 @@ impl Source {
         let heap = rt.alloc();
         let mut lines = Vec::new(heap);
         for (number, text) in (1..).zip(self.text.as_str().lines()) {
-            // Stays: under `try_map_err` a result with room for a failure is written at each line.
-            match read_line(text) {
-                Ok(Some(entry)) => lines.push(Line {
+            let read = read_line(text).try_map_err(|bad| Failure::at_line(
+                heap,
+                self.name.as_str(),
+                number,
+                bad,
+            ))?;
+            if let Some(entry) = read {
+                lines.push(Line {
                     text,
                     number,
                     entry,
-                })?,
-                Ok(None) => {}
-                Err(bad) => return Err(Failure::at_line(heap, self.name.as_str(), number, bad)?),
+                })?;
             }
         }
         Ok(lines)
