@@ -48,6 +48,22 @@ pub fn replay(heap: Global, history: &[Call]) -> Result<Vec<Reply>, AllocError>
     run(heap, &mut analyser, history)
 }
 
+// Replays a history from a new analyser, and then asks it the further questions. Apart from `audit`, so that not both
+// analysers are on the stack.
+fn replay_and_ask(
+    heap: Global,
+    calls: &[Call],
+    further: &[Call],
+) -> Result<(Vec<Reply>, Vec<Reply>), AllocError>
+    ensures before { IfOk result (λ r. History new_book calls.now r.0.items) }
+    ensures after { IfOk result (λ r. History (book_from new_book calls.now) further.now r.1.items) }
+{
+    let mut analyser = Analyser::new();
+    let replies = run(heap, &mut analyser, calls)?;
+    let asked = run(heap, &mut analyser, further)?;
+    Ok((replies, asked))
+}
+
 // Replays two histories, each from a new analyser, and asks both the further questions.
 pub fn audit(
     heap: Global,
@@ -57,12 +73,8 @@ pub fn audit(
 ) -> Result<AuditReport, AllocError>
     ensures { IfOk result (λ a. Audited calls.now others.now further.now a) }
 {
-    let mut one = Analyser::new();
-    let first = run(heap, &mut one, calls)?;
-    let first_further = run(heap, &mut one, further)?;
-    let mut other = Analyser::new();
-    let second = run(heap, &mut other, others)?;
-    let second_further = run(heap, &mut other, further)?;
+    let (first, first_further) = replay_and_ask(heap, calls, further)?;
+    let (second, second_further) = replay_and_ask(heap, others, further)?;
     Ok(AuditReport {
         first,
         second,

@@ -2,6 +2,7 @@
 ghost use Rattle.std.specs.Prelude.{◌≡◌, ◌+◌, ◌<◌, ◌≤◌, [], ◌∷◌, ◌++◌, length};
 
 use crate::mention::Mention;
+use grammar::item::Linkage;
 use lexemes::lexeme::Span;
 
 // The mentions of a text: one of 4,096 bytes has no more, and an item up to 8.
@@ -19,7 +20,8 @@ impl Mentions {
     pub(crate) fn new() -> Self
         ensures { listed result ≡ [] }
     {
-        let unused = Mention::Calls(Span { from: 0, to: 0 }, 0);
+        // All zero: such an array is cleared in place, any other filled apart and copied with what holds it, on the stack.
+        let unused = Mention::Declares(Linkage::Defined, Span { from: 0, to: 0 }, 0);
         Mentions {
             items: [unused; 4104],
             count: 0,
