@@ -41,6 +41,8 @@ fn run(heap: Global, analyser: &mut Analyser, calls: &[Call]) -> Result<Vec<Repl
 
 // Replays a history from a new analyser. Every reply is the one that the book of the calls before it calls for,
 // and a refused call changes no standing text.
+// Not inlined: its caller's frame would hold the analyser, from before a journal is read.
+#[inline(never)]
 pub fn replay(heap: Global, history: &[Call]) -> Result<Vec<Reply>, AllocError>
     ensures { IfOk result (λ v. History new_book history.now v.items) }
 {
@@ -48,8 +50,9 @@ pub fn replay(heap: Global, history: &[Call]) -> Result<Vec<Reply>, AllocError>
     run(heap, &mut analyser, history)
 }
 
-// Replays a history from a new analyser, and then asks it the further questions. Apart from `audit`, so that not both
-// analysers are on the stack.
+// Replays a history from a new analyser, and then asks it the further questions.
+// Apart from `audit` and not inlined, so that one analyser at a time is on the stack.
+#[inline(never)]
 fn replay_and_ask(
     heap: Global,
     calls: &[Call],
