@@ -18,15 +18,15 @@ use std::{env, io};
 use worklist::worklist_over;
 
 // Runs an engine on a list and shows what comes of it, with the time if that is wanted.
-fn measure<E: Engine + Drop>(
+fn measure<E: Engine>(
     rt: &HostRuntime,
     name: &str,
-    mut engine: E,
+    engine: &mut E,
     case: &Case,
     times: bool,
 ) -> io::Result<Outcome> {
     let start = Instant::now(rt)?;
-    let outcome = run_list(&mut engine, case);
+    let outcome = run_list(engine, case);
     let micros = start.elapsed(rt)?.as_micros();
     if times {
         println!(rt; "  {name}: {outcome} ({micros} us)")?;
@@ -48,35 +48,57 @@ fn chained(rt: &HostRuntime, cells: usize) -> io::Result<Chains> {
     Ok(Chains::new(links))
 }
 
-// Runs a list over the four engines, chains with so many cells.
-fn compare(rt: &HostRuntime, name: &str, case: &Case, cells: usize, times: bool) -> io::Result<()> {
-    println!(rt; "{name}")?;
-    let in_bits = [
-        measure(rt, "worklist/bits", worklist_over(bits(rt)?), case, times)?,
+// Both solvers over bits, and below both over chains. Not inlined, so that at most two engines are on the stack.
+#[inline(never)]
+fn over_bits(rt: &HostRuntime, case: &Case, times: bool) -> io::Result<[Outcome; 2]> {
+    Ok([
         measure(
             rt,
-            "difference/bits",
-            difference_over(bits(rt)?),
+            "worklist/bits",
+            &mut worklist_over(bits(rt)?),
             case,
             times,
         )?,
-    ];
-    let in_chains = [
+        measure(
+            rt,
+            "difference/bits",
+            &mut difference_over(bits(rt)?),
+            case,
+            times,
+        )?,
+    ])
+}
+
+#[inline(never)]
+fn over_chains(
+    rt: &HostRuntime,
+    cells: usize,
+    case: &Case,
+    times: bool,
+) -> io::Result<[Outcome; 2]> {
+    Ok([
         measure(
             rt,
             "worklist/chains",
-            worklist_over(chained(rt, cells)?),
+            &mut worklist_over(chained(rt, cells)?),
             case,
             times,
         )?,
         measure(
             rt,
             "difference/chains",
-            difference_over(chained(rt, cells)?),
+            &mut difference_over(chained(rt, cells)?),
             case,
             times,
         )?,
-    ];
+    ])
+}
+
+// Runs a list over the four engines, chains with so many cells.
+fn compare(rt: &HostRuntime, name: &str, case: &Case, cells: usize, times: bool) -> io::Result<()> {
+    println!(rt; "{name}")?;
+    let in_bits = over_bits(rt, case, times)?;
+    let in_chains = over_chains(rt, cells, case, times)?;
     if in_bits[0] == in_bits[1] && in_chains[0] == in_chains[1] {
         println!(rt; "  both solvers agree over each store")
     } else {
@@ -86,14 +108,34 @@ fn compare(rt: &HostRuntime, name: &str, case: &Case, cells: usize, times: bool)
 
 // Runs a list under each layer over the plain worklist, and over a store without room: there the layer's own work is all.
 fn layered(rt: &HostRuntime, case: &Case) -> io::Result<()> {
-    let hvn = Merging::new(Hvn::new(), worklist_over(bits(rt)?));
-    measure(rt, "hvn+worklist/bits", hvn, case, true)?;
-    let hu = Merging::new(Hu::new(), worklist_over(bits(rt)?));
-    measure(rt, "hu+worklist/bits", hu, case, true)?;
-    let hvn = Merging::new(Hvn::new(), worklist_over(chained(rt, 0)?));
-    measure(rt, "hvn by itself, no room below", hvn, case, true)?;
-    let hu = Merging::new(Hu::new(), worklist_over(chained(rt, 0)?));
-    measure(rt, "hu by itself, no room below", hu, case, true)?;
+    measure(
+        rt,
+        "hvn+worklist/bits",
+        &mut Merging::new(Hvn::new(), worklist_over(bits(rt)?)),
+        case,
+        true,
+    )?;
+    measure(
+        rt,
+        "hu+worklist/bits",
+        &mut Merging::new(Hu::new(), worklist_over(bits(rt)?)),
+        case,
+        true,
+    )?;
+    measure(
+        rt,
+        "hvn by itself, no room below",
+        &mut Merging::new(Hvn::new(), worklist_over(chained(rt, 0)?)),
+        case,
+        true,
+    )?;
+    measure(
+        rt,
+        "hu by itself, no room below",
+        &mut Merging::new(Hu::new(), worklist_over(chained(rt, 0)?)),
+        case,
+        true,
+    )?;
     Ok(())
 }
 
