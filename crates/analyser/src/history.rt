@@ -41,7 +41,7 @@ fn run(heap: Global, analyser: &mut Analyser, calls: &[Call]) -> Result<Vec<Repl
 
 // Replays a history from a new analyser. Every reply is the one that the book of the calls before it calls for,
 // and a refused call changes no standing text.
-// Not inlined: its caller's frame would hold the analyser, from before a journal is read.
+// Not inlined, so that the analyser is on the stack during this call alone.
 #[inline(never)]
 pub fn replay(heap: Global, history: &[Call]) -> Result<Vec<Reply>, AllocError>
     ensures { IfOk result (λ v. History new_book history.now v.items) }

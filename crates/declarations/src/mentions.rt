@@ -20,7 +20,8 @@ impl Mentions {
     pub(crate) fn new() -> Self
         ensures { listed result ≡ [] }
     {
-        // All zero: such an array is cleared in place, any other filled apart and copied with what holds it, on the stack.
+        // All zero, since `Declares` and `Defined` come first in their enums: such an array is cleared in place, and any other
+        // is filled apart and copied, with what holds it, on the stack.
         let unused = Mention::Declares(Linkage::Defined, Span { from: 0, to: 0 }, 0);
         Mentions {
             items: [unused; 4104],
