@@ -58,8 +58,8 @@ fn replay_and_ask(
     calls: &[Call],
     further: &[Call],
 ) -> Result<(Vec<Reply>, Vec<Reply>), AllocError>
-    ensures before { IfOk result (λ r. History new_book calls.now r.0.items) }
-    ensures after { IfOk result (λ r. History (book_from new_book calls.now) further.now r.1.items) }
+    ensures replies { IfOk result (λ r. History new_book calls.now r.0.items) }
+    ensures asked { IfOk result (λ r. History (book_from new_book calls.now) further.now r.1.items) }
 {
     let mut analyser = Analyser::new();
     let replies = run(heap, &mut analyser, calls)?;

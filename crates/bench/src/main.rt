@@ -13,6 +13,7 @@ use hu::Hu;
 use hvn::Hvn;
 use layers::Merging;
 use outcome::{Outcome, run_list};
+use rows::RowStore;
 use std::time::Instant;
 use std::{env, io};
 use worklist::worklist_over;
@@ -50,57 +51,29 @@ fn chained(rt: &HostRuntime, cells: usize) -> io::Result<Chains> {
     Ok(Chains::new(links))
 }
 
-// Both solvers over bits, one after the other. Not inlined, nor is its like over chains, so that not all four engines
-// are on the stack.
+// Both solvers, each over a store of a kind, one after the other. Not inlined, so that not all four engines are on the stack.
 #[inline(never)]
-fn over_bits(rt: &HostRuntime, case: &Case, times: bool) -> io::Result<[Outcome; 2]> {
-    let one = measure(
-        rt,
-        "worklist/bits",
-        &mut worklist_over(bits(rt)?),
-        case,
-        times,
-    )?;
-    let two = measure(
-        rt,
-        "difference/bits",
-        &mut difference_over(bits(rt)?),
-        case,
-        times,
-    )?;
-    Ok([one, two])
-}
-
-// Both solvers over chains of so many cells.
-#[inline(never)]
-fn over_chains(
+fn both<S: RowStore + Drop, F: Fn() -> io::Result<S>>(
     rt: &HostRuntime,
-    cells: usize,
+    names: [&str; 2],
+    make: F,
     case: &Case,
     times: bool,
-) -> io::Result<[Outcome; 2]> {
-    let one = measure(
-        rt,
-        "worklist/chains",
-        &mut worklist_over(chained(rt, cells)?),
-        case,
-        times,
-    )?;
-    let two = measure(
-        rt,
-        "difference/chains",
-        &mut difference_over(chained(rt, cells)?),
-        case,
-        times,
-    )?;
+) -> io::Result<[Outcome; 2]>
+    requires { F.IsAlwaysCallable make }
+{
+    let one = measure(rt, names[0], &mut worklist_over(make()?), case, times)?;
+    let two = measure(rt, names[1], &mut difference_over(make()?), case, times)?;
     Ok([one, two])
 }
 
 // Runs a list over the four engines, chains with so many cells.
 fn compare(rt: &HostRuntime, name: &str, case: &Case, cells: usize, times: bool) -> io::Result<()> {
     println!(rt; "{name}")?;
-    let in_bits = over_bits(rt, case, times)?;
-    let in_chains = over_chains(rt, cells, case, times)?;
+    let names = ["worklist/bits", "difference/bits"];
+    let in_bits = both(rt, names, || bits(rt), case, times)?;
+    let names = ["worklist/chains", "difference/chains"];
+    let in_chains = both(rt, names, || chained(rt, cells), case, times)?;
     if in_bits[0] == in_bits[1] && in_chains[0] == in_chains[1] {
         println!(rt; "  both solvers agree over each store")
     } else {

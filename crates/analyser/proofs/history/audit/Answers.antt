@@ -8,9 +8,9 @@ returns c =
     let one = c.in_ok-first.ensures in
     let other = c.in_ok-second.ensures in
     record {
-      first = one.before;
-      second = other.before;
-      first_further = one.after;
-      second_further = other.after;
-      alike = λ same. replies_alike (book_from new_book c.args.calls.now) (book_from new_book c.args.others.now) c.args.further.now _ _ one.after other.after same;
+      first = one.replies;
+      second = other.replies;
+      first_further = one.asked;
+      second_further = other.asked;
+      alike = λ same. replies_alike (book_from new_book c.args.calls.now) (book_from new_book c.args.others.now) c.args.further.now _ _ one.asked other.asked same;
     }
